@@ -1,0 +1,12 @@
+pub mod Dates
+pub mod BusinessDays
+pub mod Answers
+pub mod Lengths
+pub mod Periods
+pub mod Inverse
+pub mod Holidays
+pub mod Reasons
+pub mod Walk
+pub mod Decided
+pub mod Theorems
+pub mod Examples

@@ -1,0 +1,6 @@
+pub mod Others
+pub mod Places
+pub mod Spare
+pub mod Checking
+pub mod Writing
+pub mod Answers

@@ -1,0 +1,82 @@
+-- A page on which the bytes of a body, the kind bytes and the bodies are written one after the other.
+use Prim.Native.Nat.{ℕ, _+_, _*_, _≤_, _<_}
+use native.Mathlib.Nat.{mul-zero, mul-suc, add-comm}
+use native.Mathlib.Numerals.{add-one}
+use native.Mathlib.Omega.{arith}
+use mathlib.Core.Path.{_≡_, refl, ap, ap₂, sym, _∙_}
+use mathlib.Core.List.{List, [], _∷_, _++_, map, append-nil}
+use lib.ListN.{length, getD, take, drop, set, length-append, length-map}
+use lib.Seq.{sets, length-sets, take-suc, length-take-le}
+use Rattle.laws.specs.Words.{bytes16, bytes32}
+use Rattle.laws.specs.Lists.{each}
+use Rattle.laws.specs.Listed.{each-append}
+use Rattle.laws.specs.Parts.{sets-then, sets-front}
+use Rattle.events.specs.declared.Event.{Event}
+use Rattle.events.specs.declared.Fields.{Fields}
+use Rattle.events.specs.Body.{kindOf, body, bodyOf}
+use Rattle.events.specs.File.{size, fileOf}
+use Rattle.events.specs.Inverse.{length-file}
+
+-- the six stores of a body, in their order
+pub body-written : (l l₁ l₂ l₃ l₄ : List ℕ) (at : ℕ) (f : Fields) → l₁ ≡ sets l at (bytes16 (f .subject))
+    → l₂ ≡ sets (set (set l₁ (at + 2) (f .first)) (at + 3) (f .second)) (at + 4) (bytes32 (f .quantity))
+    → l₃ ≡ sets l₂ (at + 8) (bytes32 (f .price))
+    → l₄ ≡ sets l₃ (at + 12) (bytes32 0)
+    → l₄ ≡ sets l at (body f)
+unfolding body
+body-written l l₁ l₂ l₃ l₄ at f e₁ e₂ e₃ e₄ =
+    let s : List ℕ = bytes16 (f .subject) in
+    let q : List ℕ = bytes32 (f .quantity) in
+    let p : List ℕ = bytes32 (f .price) in
+    let a = sets-then l l₁ (set l₁ (at + 2) (f .first)) s (f .first ∷ []) at (at + 2) e₁ refl (omega arith) in
+    let b = sets-then l (set l₁ (at + 2) (f .first)) (set (set l₁ (at + 2) (f .first)) (at + 3) (f .second)) (s ++ (f .first ∷ [])) (f .second ∷ []) at (at + 3) a refl (omega arith) in
+    let c = sets-then l (set (set l₁ (at + 2) (f .first)) (at + 3) (f .second)) l₂ (s ++ (f .first ∷ []) ++ (f .second ∷ [])) q at (at + 4) b e₂ (omega arith) in
+    let d = sets-then l l₂ l₃ (s ++ (f .first ∷ []) ++ (f .second ∷ []) ++ q) p at (at + 8) c e₃ (omega arith) in
+    sets-then l l₃ l₄ (s ++ (f .first ∷ []) ++ (f .second ∷ []) ++ q ++ p) (bytes32 0) at (at + 12) d e₄ (omega arith)
+
+-- the kind bytes as parts of one byte
+abbrev pub kindByte : Event → List ℕ
+kindByte e = kindOf e ∷ []
+
+pub kind-bytes : (es : List Event) → each kindByte es ≡ map kindOf es
+kind-bytes [] = refl
+kind-bytes (e ∷ es) = ap (λ (l : List ℕ). kindOf e ∷ l) (kind-bytes es)
+
+-- one more part: what the next element writes, where those before it end
+module _ {A : Type 0} (part : A → List ℕ) (width : ℕ) (wide : (x : A) → length (part x) ≡ width) where
+  length-parts : (xs : List A) → length (each part xs) ≡ width * length xs
+  length-parts [] = sym (mul-zero width)
+  length-parts (x ∷ xs) =
+      length-append (part x) (each part xs) ∙ ap₂ (λ (a b : ℕ). a + b) (wide x) (length-parts xs) ∙ add-comm width (width * length xs) ∙ sym (mul-suc width (length xs))
+
+  pub part-written : (page₀ page next : List ℕ) (xs : List A) (at i j : ℕ) (d : A) → page ≡ sets page₀ at (each part (take i xs)) → i < length xs
+      → next ≡ sets page j (part (getD xs i d)) → j ≡ at + width * i → next ≡ sets page₀ at (each part (take (i + 1) xs))
+  part-written page₀ page next xs at i j d e h f p =
+      let many : length (each part (take i xs)) ≡ width * i = length-parts (take i xs) ∙ ap (λ (k : ℕ). width * k) (length-take-le i xs (omega arith)) in
+      let more : each part (take (i + 1) xs) ≡ each part (take i xs) ++ part (getD xs i d) =
+      rw (add-one i, take-suc xs i d h) (each-append part (take i xs) (getD xs i d ∷ []) ∙ ap (λ (l : List ℕ). each part (take i xs) ++ l) (append-nil (part (getD xs i d)))) in
+      sets-then page₀ page next (each part (take i xs)) (part (getD xs i d)) at j e f (omega (arith, many)) ∙ ap (sets page₀ at) (sym more)
+
+  -- all n of them
+  pub parts-written : (page₀ page : List ℕ) (xs : List A) (at i n : ℕ) → page ≡ sets page₀ at (each part (take i xs)) → i ≤ n → n ≤ i → page ≡ sets page₀ at (each part (take n xs))
+  parts-written page₀ page xs at i n e h k =
+      let same : i ≡ n = omega arith in
+      e ∙ ap (λ (m : ℕ). sets page₀ at (each part (take m xs))) same
+
+pub same-long : (page₀ page vs : List ℕ) (at : ℕ) → page ≡ sets page₀ at vs → length page ≡ length page₀
+same-long page₀ page vs at e = ap length e ∙ length-sets page₀ at vs
+
+-- ---- the whole file
+
+whole : (es : List Event) (n : ℕ) → length es ≡ n → bytes16 n ++ bytes16 16 ++ map kindOf es ++ each bodyOf es ≡ fileOf es
+unfolding fileOf
+whole es n long = ap (λ (k : ℕ). bytes16 k ++ bytes16 16 ++ map kindOf es ++ each bodyOf es) (sym long)
+
+pub file-written : (l l₁ l₂ l₃ l₄ : List ℕ) (es : List Event) (n : ℕ) → length es ≡ n → size n ≤ length l
+    → l₁ ≡ sets l 0 (bytes16 n) → l₂ ≡ sets l₁ 2 (bytes16 16) → l₃ ≡ sets l₂ 4 (map kindOf es) → l₄ ≡ sets l₃ (4 + n) (each bodyOf es)
+    → l₄ ≡ fileOf es ++ drop (length (fileOf es)) l
+file-written l l₁ l₂ l₃ l₄ es n long room e₁ e₂ e₃ e₄ =
+    let a = sets-then l l₁ l₂ (bytes16 n) (bytes16 16) 0 2 e₁ e₂ refl in
+    let b = sets-then l l₂ l₃ (bytes16 n ++ bytes16 16) (map kindOf es) 0 4 a e₃ refl in
+    let c = sets-then l l₃ l₄ (bytes16 n ++ bytes16 16 ++ map kindOf es) (each bodyOf es) 0 (4 + n) b e₄ (omega (arith, length-map es kindOf)) in
+    c ∙ ap (sets l 0) (whole es n long) ∙ sets-front l (fileOf es) (omega (arith, length-file es))

@@ -1,0 +1,55 @@
+-- `events::event_from` meets its contract. Each arm is a row of the table of kinds.
+use Rattle.events.proofs.Others.{others}
+use Rattle.events.specs.Body.{eventFrom}
+use Rattle.events.proofs.event_from.Statement.{statement}
+use Rattle.events.proofs.event_from.Tie as tie
+
+returns : tie.Need-returns
+unfolding eventFrom
+returns c = rw (c .match .keys1)
+
+returns-2 : tie.Need-returns-2
+unfolding eventFrom
+returns-2 c = rw (c .match .keys2)
+
+returns-3 : tie.Need-returns-3
+unfolding eventFrom
+returns-3 c = rw (c .match .keys3)
+
+returns-4 : tie.Need-returns-4
+unfolding eventFrom
+returns-4 c = rw (c .match .keys4)
+
+returns-5 : tie.Need-returns-5
+unfolding eventFrom
+returns-5 c = rw (c .match .keys5)
+
+returns-6 : tie.Need-returns-6
+unfolding eventFrom
+returns-6 c = rw (c .match .keys6)
+
+returns-7 : tie.Need-returns-7
+unfolding eventFrom
+returns-7 c = rw (c .match .keys7)
+
+returns-8 : tie.Need-returns-8
+unfolding eventFrom
+returns-8 c = rw (c .match .keys8)
+
+returns-9 : tie.Need-returns-9
+unfolding eventFrom
+returns-9 c = others _ _ _ _ _ _ _ _ _ (c .before .args .kind) (c .match .rest)
+
+pub event-from-spec : {M : Type 1} → statement M
+event-from-spec =
+    tie.close
+    (tie.spec
+    returns
+    returns-2
+    returns-3
+    returns-4
+    returns-5
+    returns-6
+    returns-7
+    returns-8
+    returns-9)

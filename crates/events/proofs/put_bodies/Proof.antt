@@ -1,0 +1,85 @@
+-- `events::put_bodies` meets its contract. The loop's invariant: the bodies of the first i events are written.
+use Prim.Native.Nat.{_*_, _≤_, _-_, _+_}
+use native.Mathlib.Omega.{arith}
+use mathlib.Core.Path.{_≡_, refl, ap, _∙_}
+use lib.ListN.{take, length}
+use lib.Seq.{sets}
+use borrow.Author.Needs.{needs}
+use Rattle.laws.specs.Lists.{each}
+use Rattle.events.specs.Body.{body, bodyOf, fieldsOf}
+use Rattle.events.specs.Inverse.{length-body}
+use Rattle.events.proofs.Writing.{part-written, parts-written, same-long}
+use Rattle.events.proofs.put_bodies.Statement.{statement}
+use Rattle.events.proofs.put_bodies.Tie as tie
+
+abbrev Inv-loop : tie.InvT-loop
+Inv-loop page₀ count events i₀ page i =
+    (i ≤ count) × (page ≡ sets page₀ (4 + count) (each bodyOf (take i events)))
+
+abbrev μ-loop : tie.MeasureT-loop
+μ-loop page₀ count events i₀ page i = count - i
+
+loop-holds : tie.Need-loop-holds Inv-loop μ-loop
+loop-holds c = (omega arith, refl)
+
+mul-event : tie.Need-mul-event Inv-loop μ-loop
+mul-event c = omega arith
+
+array-copy-out-event : tie.Need-array-copy-out-event Inv-loop μ-loop
+array-copy-out-event c = omega arith
+
+add-put-body : tie.Need-add-put-body Inv-loop μ-loop
+add-put-body c = omega arith
+
+mul-put-body : tie.Need-mul-put-body Inv-loop μ-loop
+mul-put-body c = omega arith
+
+add-put-body-2 : tie.Need-add-put-body-2 Inv-loop μ-loop
+add-put-body-2 c = omega arith
+
+fields-of-requires : tie.Need-fields-of-requires Inv-loop μ-loop
+fields-of-requires c κs = tt
+
+put-body-requires : tie.Need-put-body-requires Inv-loop μ-loop
+put-body-requires c κs = omega (arith, same-long (c .before .before .before .before .before .before .args .page .now) (c .before .before .before .before .loop .page) (each bodyOf (take (c .before .before .before .before .loop .i) (c .before .before .before .before .before .before .args .t2))) (4 + c .before .before .before .before .before .before .args .count) (c .before .before .before .before .loop .inv .1))
+
+add-i : tie.Need-add-i Inv-loop μ-loop
+add-i c = omega arith
+
+loop-less : tie.Need-loop-less Inv-loop μ-loop
+loop-less c = omega arith
+
+loop-again : tie.Need-loop-again Inv-loop μ-loop
+loop-again c =
+    let long : length (c .before .before .before .before .before .before .before .before .before .args .t2) ≡ 2048 = search needs in (
+      omega arith,
+      part-written bodyOf 16 (λ e. length-body (fieldsOf e)) (c .before .before .before .before .before .before .before .before .before .args .page .now) (c .before .before .before .before .before .before .before .loop .page) (c .before .before .put-body .last .0) (c .before .before .before .before .before .before .before .before .before .args .t2) (4 + c .before .before .before .before .before .before .before .before .before .args .count) (c .before .before .before .before .before .before .before .loop .i) (4 + c .before .before .before .before .before .before .before .before .before .args .count + 16 * c .before .before .before .before .before .before .before .loop .i) _ (c .before .before .before .before .before .before .before .loop .inv .1) (omega arith)
+          (c .before .before .put-body .ensures ∙ ap (λ f. sets (c .before .before .before .before .before .before .before .loop .page) (4 + c .before .before .before .before .before .before .before .before .before .args .count + 16 * c .before .before .before .before .before .before .before .loop .i) (body f)) (c .before .before .before .fields-of .ensures)) (omega arith),
+    )
+
+same-length : tie.Need-same-length Inv-loop μ-loop
+same-length c = same-long (c .before .before .before .args .page .now) (c .before .loop .page) (each bodyOf (take (c .before .loop .i) (c .before .before .before .args .t2))) (4 + c .before .before .before .args .count) (c .before .loop .inv .1)
+
+returns : tie.Need-returns Inv-loop μ-loop
+returns c =
+    parts-written bodyOf 16 (λ e. length-body (fieldsOf e)) (c .before .before .before .args .page .now) _ (c .before .before .before .args .t2) (4 + c .before .before .before .args .count) (c .before .loop .i) (c .before .before .before .args .count) (c .before .loop .inv .1) (c .before .loop .inv .0) (c .loop-test .left)
+
+pub put-bodies-spec : {M : Type 1} → statement M
+put-bodies-spec =
+    tie.close
+    (tie.spec
+    Inv-loop
+    μ-loop
+    loop-holds
+    mul-event
+    array-copy-out-event
+    add-put-body
+    mul-put-body
+    add-put-body-2
+    fields-of-requires
+    put-body-requires
+    add-i
+    loop-less
+    loop-again
+    same-length
+    returns)

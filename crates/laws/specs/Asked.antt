@@ -1,0 +1,36 @@
+-- Tests that were asked: a Bool with what it said, and what a joined test says of its parts.
+use mathlib.Core.Path.{_≡_, refl, sym, _∙_}
+use mathlib.Core.Bool.{Bool, true, false, not, _&&_, _||_, true≢false}
+
+-- what a test said: it passed or it failed
+pub data Said (b : Bool) : Type 0 where
+  passed : b ≡ true → Said b
+  failed : b ≡ false → Said b
+
+pub ask : (b : Bool) → Said b
+ask true = passed refl
+ask false = failed refl
+
+pub and-left : (a b : Bool) → a && b ≡ true → a ≡ true
+and-left true b e = refl
+and-left false b e = e
+
+pub and-right : (a b : Bool) → a && b ≡ true → b ≡ true
+and-right true b e = e
+and-right false b e = absurd (true≢false (sym e))
+
+pub both : (a b : Bool) → a ≡ true → b ≡ true → a && b ≡ true
+both true b e f = f
+both false b e f = e
+
+pub or-left : (a b : Bool) → a || b ≡ false → a ≡ false
+or-left true b e = e
+or-left false b e = refl
+
+pub or-right : (a b : Bool) → a || b ≡ false → b ≡ false
+or-right true b e = absurd (true≢false e)
+or-right false b e = e
+
+pub neither : (a b : Bool) → a ≡ false → b ≡ false → a || b ≡ false
+neither true b e f = e
+neither false b e f = f

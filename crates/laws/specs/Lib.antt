@@ -1,0 +1,12 @@
+pub mod Lists
+pub mod Asked
+pub mod Refusals
+pub mod Words
+pub mod Listed
+pub mod Sums
+pub mod Alls
+pub mod Places
+pub mod Integers
+pub mod Ranges
+pub mod WordLaws
+pub mod Parts

@@ -1,0 +1,4 @@
+pub mod Digits
+pub mod Checked
+pub mod Size
+pub mod Entries

@@ -1,0 +1,164 @@
+-- What holds of a register that is accepted.
+use Prim.Native.Nat.{ℕ, _+_, _-_, _*_, _≤_, _<_}
+use native.Mathlib.Nat.{zero-add}
+use native.Mathlib.Omega.{arith}
+use mathlib.Core.Path.{_≡_, refl, ap, sym, _∙_}
+use mathlib.Core.List.{List}
+use mathlib.Core.Bool.{Bool, true, false, false≢true}
+use lib.ListN.{length, getD, drop, length-append, length-replicate, length-drop, List·getD-append}
+use lib.Seq.{length-take-le, getD-take, getD-drop}
+use lib.Dec.{leb, eqb}
+use borrow.Author.Tests.{leb-true, eqb-true, not-false}
+use Rattle.laws.specs.Refusals.{first, numbered, none-applies, each-passes, accepted, accepted-not}
+use Rattle.laws.specs.Asked.{and-left, and-right}
+use Rattle.laws.specs.Places.{same, same-refl, some-range}
+use Rattle.register.specs.Isin.{within, isin}
+use Rattle.register.specs.Register.{count, classAt, isinAt, rightSize, isClass, standsEarlier, entryReasons, entriesRefusal, refusal, zeros, padded, classBytes, isinBytes, registerOf, emptyRegister, classOf, registerRead, Sized}
+use Rattle.register.specs.declared.Register.{Register}
+
+pub within-low : (low high n : ℕ) → within low high n ≡ true → low ≤ n
+unfolding within
+within-low low high n e = leb-true low n (and-left (leb low n) (leb n high) e)
+
+pub within-high : (low high n : ℕ) → within low high n ≡ true → n ≤ high
+unfolding within
+within-high low high n e = leb-true n high (and-right (leb low n) (leb n high) e)
+
+pub sized : (bytes : List ℕ) → rightSize bytes ≡ true → Sized bytes (count bytes)
+unfolding rightSize
+sized bytes e =
+    let n = count bytes in
+    let w : within 1 32 n ≡ true = and-left (within 1 32 n) (eqb (length bytes) (2 + 13 * n)) e in
+    record {
+      counted = refl;
+      low = within-low 1 32 n w;
+      high = within-high 1 32 n w;
+      long = eqb-true (length bytes) (2 + 13 * n) (and-right (within 1 32 n) (eqb (length bytes) (2 + 13 * n)) e);
+    }
+
+-- an entry that is not refused: its class is 1 to 3, its ISIN passes the check and stands nowhere earlier
+pub record Entry (bytes : List ℕ) (i : ℕ) : Type 0 where
+  pub class-low : 1 ≤ classAt bytes i
+  pub class-high : classAt bytes i ≤ 3
+  pub checked : isin (isinAt bytes i) ≡ true
+  pub new : (j : ℕ) → j < i → isinAt bytes j ≡ isinAt bytes i → ⊥
+
+pub entry-numbered : (bytes : List ℕ) (i : ℕ) → numbered (entryReasons bytes i) ≡ true
+unfolding entryReasons
+entry-numbered bytes i = refl
+
+new-isin : (bytes : List ℕ) (i : ℕ) → standsEarlier bytes i ≡ false → (j : ℕ) → j < i → isinAt bytes j ≡ isinAt bytes i → ⊥
+unfolding standsEarlier
+new-isin bytes i e j h k =
+    let at : same (isinAt bytes j) (isinAt bytes i) ≡ false = rw zero-add at (some-range (λ (m : ℕ). same (isinAt bytes m) (isinAt bytes i)) 0 i j e h) in
+    let is : same (isinAt bytes j) (isinAt bytes i) ≡ true = ap (λ (l : List ℕ). same l (isinAt bytes i)) k ∙ same-refl (isinAt bytes i) in
+    false≢true (sym at ∙ is)
+
+pub entry : (bytes : List ℕ) (i : ℕ) → first (entryReasons bytes i) ≡ 0 → Entry bytes i
+unfolding entryReasons
+entry bytes i e =
+    let f = none-applies (entryReasons bytes i) (entry-numbered bytes i) e in
+    let class : isClass (classAt bytes i) ≡ true = not-false _ (f .0) in
+    record {
+      class-low = within-low 1 3 _ class;
+      class-high = within-high 1 3 _ class;
+      checked = not-false _ (f .1 .0);
+      new = new-isin bytes i (f .1 .1 .0);
+    }
+
+-- where the size is right the entries alone decide
+pub refusal-sized : (bytes : List ℕ) → rightSize bytes ≡ true → refusal bytes ≡ entriesRefusal bytes
+unfolding refusal entriesRefusal
+refusal-sized bytes e = simp e
+
+pub refusal-unsized : (bytes : List ℕ) → rightSize bytes ≡ false → refusal bytes ≡ 1
+unfolding refusal
+refusal-unsized bytes e = simp e
+
+module _ (bytes : List ℕ) (taken : refusal bytes ≡ 0) where
+  right-size : rightSize bytes ≡ true
+  right-size = go (rightSize bytes) refl
+    where
+      go : (b : Bool) → rightSize bytes ≡ b → rightSize bytes ≡ true
+      go true e = e
+      go false e = absurd (omega (arith, sym (refusal-unsized bytes e) ∙ taken))
+
+  pub accepted-size : Sized bytes (count bytes)
+  accepted-size = sized bytes right-size
+
+  pub accepted-entry : (i : ℕ) → i < count bytes → Entry bytes i
+  unfolding entriesRefusal
+  accepted-entry i h =
+      entry bytes i
+      (rw zero-add at (each-passes (entryReasons bytes) (entry-numbered bytes) 0 (count bytes) i (sym (refusal-sized bytes right-size) ∙ taken) h))
+
+pub length-zeros : (n : ℕ) → length (zeros n) ≡ n
+unfolding zeros
+length-zeros n = length-replicate n 0
+
+pub length-padded : (size : ℕ) (bytes : List ℕ) → length bytes ≤ size → length (padded size bytes) ≡ size
+unfolding padded
+length-padded size bytes h =
+    length-append bytes (zeros (size - length bytes)) ∙ omega (arith, length-zeros (size - length bytes))
+
+module _ (bytes : List ℕ) (s : Sized bytes (count bytes)) where
+  pub length-class-bytes : length (classBytes bytes) ≡ count bytes
+  unfolding classBytes
+  length-class-bytes = length-take-le (count bytes) (drop 2 bytes) (omega (arith, length-drop 2 bytes, s .long))
+
+  pub length-isin-bytes : length (isinBytes bytes) ≡ 12 * count bytes
+  unfolding isinBytes
+  length-isin-bytes =
+      length-take-le (12 * count bytes) (drop (2 + count bytes) bytes) (omega (arith, length-drop (2 + count bytes) bytes, s .long))
+
+  pub class-of-bytes : (i : ℕ) → i < count bytes → getD (registerOf bytes .classes) i 0 ≡ classAt bytes i
+  unfolding registerOf padded classBytes classAt
+  class-of-bytes i h =
+      List·getD-append (classBytes bytes) (zeros (32 - length (classBytes bytes))) 0 i (omega (arith, length-class-bytes))
+      ∙ getD-take (count bytes) (drop 2 bytes) i 0 h
+      ∙ getD-drop 2 bytes i 0
+
+-- a register by value: its count and arrays are of the right size, and each class of its securities is 1, 2 or 3
+pub record Registered (r : Register) : Type 0 where
+  pub low : 1 ≤ r .count
+  pub high : r .count ≤ 32
+  pub classes-long : length (r .classes) ≡ 32
+  pub isins-long : length (r .isins) ≡ 384
+  pub class-low : (i : ℕ) → i < r .count → 1 ≤ getD (r .classes) i 0
+  pub class-high : (i : ℕ) → i < r .count → getD (r .classes) i 0 ≤ 3
+
+pub registered : (bytes : List ℕ) → refusal bytes ≡ 0 → Registered (registerOf bytes)
+unfolding registerOf
+registered bytes taken =
+    let s = accepted-size bytes taken in
+    record {
+      low = s .low;
+      high = s .high;
+      classes-long = length-padded 32 (classBytes bytes) (omega (arith, length-class-bytes bytes s, s .high));
+      isins-long = length-padded 384 (isinBytes bytes) (omega (arith, length-isin-bytes bytes s, s .high));
+      class-low = λ i h. rw (class-of-bytes bytes s i h) (accepted-entry bytes taken i h .class-low);
+      class-high = λ i h. rw (class-of-bytes bytes s i h) (accepted-entry bytes taken i h .class-high);
+    }
+
+-- what reading answers, by its number
+pub read-accepted : (bytes : List ℕ) → refusal bytes ≡ 0 → registerRead bytes .register ≡ registerOf bytes
+unfolding registerRead
+read-accepted bytes taken = ap (λ (n : ℕ). accepted n (registerOf bytes) emptyRegister) taken
+
+pub read-refused : (bytes : List ℕ) → (refusal bytes ≡ 0 → ⊥) → registerRead bytes .register ≡ emptyRegister
+unfolding registerRead
+read-refused bytes refused = accepted-not (refusal bytes) (registerOf bytes) emptyRegister refused
+
+pub read-registered : (bytes : List ℕ) → registerRead bytes .number ≡ 0 → Registered (registerRead bytes .register)
+unfolding registerRead
+read-registered bytes taken = rw (read-accepted bytes taken) (registered bytes taken)
+
+-- the class of each security of a register is 1, 2 or 3
+module _ (r : Register) (v : Registered r) (security : ℕ) (first-on : 1 ≤ security) (to-last : security ≤ r .count) where
+  pub class-of-low : 1 ≤ classOf r security
+  unfolding classOf
+  class-of-low = v .class-low (security - 1) (omega arith)
+
+  pub class-of-high : classOf r security ≤ 3
+  unfolding classOf
+  class-of-high = v .class-high (security - 1) (omega arith)

@@ -1,0 +1,3 @@
+pub mod Isin
+pub mod Register
+pub mod Accepted

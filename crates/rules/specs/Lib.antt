@@ -1,0 +1,4 @@
+pub mod Classes
+pub mod Windows
+pub mod Prices
+pub mod Charges

@@ -1,0 +1,261 @@
+//! Event files: read, and written again into a page.
+
+use super::{damage, hex, Hex};
+use crate::check::{Check, Round, Tests};
+use crate::desk::{self, Answer};
+use crate::events::{self, Body, Event, MOST_EVENTS, WIDTH};
+use crate::random::Random;
+use crate::refusal::Refusal;
+
+/// Bytes kept free on either side of a page, which no call may touch.
+const MARGIN: usize = 40;
+
+pub fn exhaustive(tests: &mut Tests) {
+    tests.check("files: none, few and the most events", &[0, 5], |check| {
+        let mut random = Random::new(0, "counts");
+        for count in [0, 1, 2, 255, 256, 257, 2_047, MOST_EVENTS, MOST_EVENTS + 1, 4_096, 65_535] {
+            let file = events::file_of(&random_events(&mut random, count));
+            let expected = if count <= 2_048 { Answer::accepted(count as u32) } else { Answer::refused(5) };
+            known(check, &file, expected);
+        }
+        // Lengths that are right in their low bytes.
+        for more in [256, 65_536] {
+            let file = events::file_of(&random_events(&mut random, 3));
+            known(check, &[file, vec![0; more]].concat(), Answer::refused(5));
+        }
+    });
+    tests.check("files: each kind byte", &[0, 6], |check| {
+        let mut random = Random::new(0, "kinds");
+        let two = [random_event(&mut random, 1), random_event(&mut random, 5)];
+        for kind in 0..=u8::MAX {
+            let expected = if (1..=9).contains(&kind) { Answer::accepted(1) } else { Answer::refused(6) };
+            known(check, &file_of_bodies(&[(kind, [0; WIDTH])]), expected);
+            let mut file = events::file_of(&two);
+            file[4 + 1] = kind;
+            read(check, &file);
+            file.swap(4, 5);
+            read(check, &file);
+        }
+    });
+    tests.check("files: each value of each body byte of each kind", &[0, 7], |check| {
+        let mut random = Random::new(0, "spare bytes");
+        for kind in 1..=9 {
+            for at in 0..WIDTH {
+                for value in 0..=u8::MAX {
+                    let mut body = [0; WIDTH];
+                    body[at] = value;
+                    let spare = value != 0 && !used(kind).contains(&at);
+                    let expected = if spare { Answer::refused(7) } else { Answer::accepted(1) };
+                    known(check, &file_of_bodies(&[(kind, body)]), expected);
+                    let mut body = random_event(&mut random, kind).body();
+                    body[at] = value;
+                    read(check, &file_of_bodies(&[(kind, body)]));
+                }
+            }
+        }
+    });
+    tests.check("files: each small count with each length", &[0, 5], |check| {
+        for count in (0..=4).chain([256, 257, 258, 2_048, 2_049, 65_535]) {
+            for length in 0..=events::length(3) {
+                // Closes alone, so that nothing but the size decides.
+                let mut file = vec![0; length.max(4)];
+                file[..2].copy_from_slice(&u16::to_le_bytes(count));
+                file[2] = WIDTH as u8;
+                file.iter_mut().skip(4).take(usize::from(count)).for_each(|kind| *kind = 9);
+                read(check, &file[..length]);
+            }
+        }
+    });
+    tests.check("files: each width", &[0, 5], |check| {
+        let file = events::file_of(&random_events(&mut Random::new(0, "widths"), 3));
+        for width in 0..=u16::MAX {
+            let mut file = file.clone();
+            file[2..4].copy_from_slice(&width.to_le_bytes());
+            read(check, &file);
+        }
+    });
+    tests.check("files: faults of two events, in both orders", &[6, 7], |check| {
+        // The earlier event decides; within an event the kind comes before the spare bytes.
+        let [mut spare, set] = [[0; WIDTH], [1; WIDTH]];
+        spare[15] = 1;
+        let faults = [(0, [0; WIDTH], 6), (10, set, 6), (255, set, 6), (9, set, 7), (1, spare, 7), (4, spare, 7)];
+        for (kind, body, refusal) in faults {
+            for (later_kind, later_body, _) in faults {
+                let file = file_of_bodies(&[(2, [0; WIDTH]), (kind, body), (later_kind, later_body)]);
+                known(check, &file, Answer::refused(refusal));
+            }
+        }
+    });
+    tests.check("pages: each size around the file's", &[0, 5, 6, 7], |check| {
+        let mut random = Random::new(0, "pages");
+        for count in [0, 1, 2, 7] {
+            let file = events::file_of(&random_events(&mut random, count));
+            for size in 0..=file.len() + 40 {
+                copy(check, &mut random, &file, size);
+            }
+        }
+        let refused = [file_of_bodies(&[(10, [0; WIDTH])]), file_of_bodies(&[(9, [1; WIDTH])]), vec![1, 0, 16]];
+        for file in &refused {
+            for size in 0..=file.len() + 40 {
+                copy(check, &mut random, file, size);
+            }
+        }
+        for count in [MOST_EVENTS - 1, MOST_EVENTS, MOST_EVENTS + 1] {
+            let file = events::file_of(&random_events(&mut random, count));
+            for size in file.len() - 20..=file.len() + 20 {
+                copy(check, &mut random, &file, size);
+            }
+        }
+    });
+}
+
+pub fn seeded(round: &mut Round) {
+    round.check("files: random events", &[0], |check, random| {
+        for _ in 0..3_000 {
+            let count = random.below(64);
+            read(check, &events::file_of(&random_events(random, count)));
+        }
+    });
+    round.check("files: damaged", &[0, 5, 6, 7], |check, random| {
+        for _ in 0..20_000 {
+            read(check, &damaged_file(random));
+        }
+    });
+    round.check("files: long and damaged in one place", &[0, 5, 6, 7], |check, random| {
+        let whole = events::file_of(&random_events(random, MOST_EVENTS));
+        for _ in 0..300 {
+            let mut file = whole.clone();
+            match random.below(3) {
+                0 => damage(random, &mut file),
+                1 => file[4 + random.below(MOST_EVENTS)] = random.byte(),
+                _ => {
+                    let at = random.between(4 + MOST_EVENTS, file.len() - 1);
+                    file[at] ^= 1 << random.below(8);
+                }
+            }
+            read(check, &file);
+        }
+    });
+    round.check("files: random bytes", &[0, 5, 6, 7], |check, random| {
+        for _ in 0..10_000 {
+            let count = random.below(6);
+            let mut file = random.bytes(events::length(count));
+            // Else the header is hardly ever right.
+            if random.one_in(2) {
+                file[..4].copy_from_slice(&[count as u8, 0, WIDTH as u8, 0]);
+                file[4..4 + count].iter_mut().for_each(|kind| *kind %= 11);
+            }
+            read(check, &file);
+        }
+    });
+    round.check("pages: random files and sizes", &[0, 5, 6, 7], |check, random| {
+        for _ in 0..10_000 {
+            let file = damaged_file(random);
+            let size = match random.below(4) {
+                0 => random.below(file.len() + 100),
+                1 => file.len(),
+                _ => (file.len() + random.below(5)).saturating_sub(2),
+            };
+            copy(check, random, &file, size);
+        }
+    });
+}
+
+fn second(file: &[u8]) -> Result<u32, Refusal> {
+    events::read(file).map(|events| events.len() as u32)
+}
+
+fn read(check: &mut Check, file: &[u8]) {
+    check.same_answer(|| hex(file), desk::file(file), second(file));
+}
+
+/// An answer known beforehand, wanted of the desk and of the second implementation alike.
+fn known(check: &mut Check, file: &[u8], known: Answer) {
+    check.known_answer(|| hex(file), desk::file(file), second(file), known);
+}
+
+/// Copies the file into a page of random bytes and compares the answers, the pages and the bytes around them.
+fn copy(check: &mut Check, random: &mut Random, file: &[u8], size: usize) {
+    let before = random.bytes(MARGIN + size + MARGIN);
+    let page = MARGIN..MARGIN + size;
+    let [mut desk_bytes, mut second_bytes] = [before.clone(), before.clone()];
+    let desk = desk::copy_file(file, &mut desk_bytes[page.clone()]);
+    let second: Answer = events::read(file)
+        .and_then(|events| events::write(&events, &mut second_bytes[page.clone()]))
+        .map(|written| written as u32)
+        .into();
+    // The bytes at least are known: an accepted copy is the file itself, and all else is as it was.
+    let mut known_bytes = before.clone();
+    known_bytes[MARGIN..][..second.quantity as usize].copy_from_slice(&file[..second.quantity as usize]);
+    check.count(second);
+    check.known(
+        || format!("file {} page {}", hex(file), hex(&before[page.clone()])),
+        (desk, Hex(desk_bytes)),
+        (second, Hex(second_bytes)),
+        (second, Hex(known_bytes)),
+    );
+}
+
+/// The body bytes that are a field of the kind; all others are spare.
+fn used(kind: u8) -> &'static [usize] {
+    match kind {
+        1 => &[0, 1, 2, 3, 4, 5, 6, 7, 8, 9, 10, 11],
+        2 => &[0, 1, 8, 9, 10, 11],
+        3 => &[0, 1, 4, 5, 6, 7],
+        5 => &[0, 1, 2, 4, 5, 6, 7, 8, 9, 10, 11],
+        4 | 6 | 7 | 8 => &[0, 1],
+        _ => &[],
+    }
+}
+
+fn file_of_bodies(events: &[(u8, Body)]) -> Vec<u8> {
+    let header = vec![events.len() as u8, 0, WIDTH as u8, 0];
+    let kinds = events.iter().map(|&(kind, _)| kind).collect();
+    let bodies = events.iter().flat_map(|&(_, body)| body).collect();
+    [header, kinds, bodies].concat()
+}
+
+fn random_event(random: &mut Random, kind: u8) -> Event {
+    let number = random.word() as u16;
+    let [first, second] = [(); 2].map(|_| random.byte());
+    let [quantity, price] = [(); 2].map(|_| random.sized_word() as u32);
+    match kind {
+        1 => Event::Trade { security: number, seller: first, buyer: second, quantity, price },
+        2 => Event::Price { security: number, price },
+        3 => Event::Delivery { short: number, quantity },
+        4 => Event::Attempt { short: number },
+        5 => Event::Offer { short: number, offerer: first, quantity, price },
+        6 => Event::Award { short: number },
+        7 => Event::Confirm { award: number },
+        8 => Event::Cash { short: number },
+        _ => Event::Close,
+    }
+}
+
+fn random_events(random: &mut Random, count: usize) -> Vec<Event> {
+    (0..count)
+        .map(|_| {
+            let kind = random.between(1, 9) as u8;
+            random_event(random, kind)
+        })
+        .collect()
+}
+
+fn damaged_file(random: &mut Random) -> Vec<u8> {
+    let count = random.below(20);
+    let mut file = events::file_of(&random_events(random, count));
+    for _ in 0..random.between(0, 2) {
+        match random.below(5) {
+            0 => damage(random, &mut file),
+            1 if file.len() > 4 + count => file[4 + random.below(count + 1)] = random.pick(&[0, 1, 9, 10, 11, 255]),
+            2 if file.len() > 4 + count => {
+                let at = random.between(4 + count, file.len() - 1);
+                file[at] ^= 1 << random.below(8);
+            }
+            3 if file.len() >= 4 => file[2 + random.below(2)] = random.pick(&[0, 1, 15, 16, 17]),
+            4 if file.len() >= 4 => file[random.below(2)] = random.byte(),
+            _ => {}
+        }
+    }
+    file
+}

@@ -1,0 +1,58 @@
+//! Compares the static library `desk` with a second implementation, written from document 01 and ISO 6166 in another style.
+//!
+//! An argument, if given, is the seed of the second round; else that round has a seed of its own in each run.
+
+mod calendar;
+mod charges;
+mod check;
+mod compare;
+mod desk;
+mod events;
+mod random;
+mod refusal;
+mod register;
+mod windows;
+
+use calendar::Calendar;
+use check::{Round, Tests};
+use std::process::ExitCode;
+use std::time::{SystemTime, UNIX_EPOCH};
+
+const FIXED_SEED: u64 = 1;
+
+fn main() -> ExitCode {
+    let seed = match std::env::args().nth(1).map(|text| text.parse()) {
+        None => seed_of_this_run(),
+        Some(Ok(seed)) => seed,
+        Some(Err(_)) => {
+            eprintln!("the seed is a number below 2^64");
+            return ExitCode::from(2);
+        }
+    };
+    let calendar = Calendar::new();
+    let mut tests = Tests::default();
+
+    compare::charges::exhaustive(&mut tests);
+    compare::calendar::exhaustive(&mut tests, &calendar);
+    compare::register::exhaustive(&mut tests);
+    compare::events::exhaustive(&mut tests);
+    for seed in [FIXED_SEED, seed] {
+        println!("seed {seed}");
+        let mut round = Round { tests: &mut tests, seed };
+        compare::charges::seeded(&mut round);
+        compare::calendar::seeded(&mut round, &calendar);
+        compare::register::seeded(&mut round);
+        compare::events::seeded(&mut round);
+    }
+
+    println!("{} passed, {} failed", tests.passed, tests.failed);
+    if tests.failed == 0 {
+        ExitCode::SUCCESS
+    } else {
+        ExitCode::FAILURE
+    }
+}
+
+fn seed_of_this_run() -> u64 {
+    SystemTime::now().duration_since(UNIX_EPOCH).map_or(0, |since| since.as_nanos() as u64)
+}

@@ -1,0 +1,53 @@
+//! The register: classes and ISINs.
+
+use crate::refusal::Refusal;
+
+/// A class and an ISIN.
+pub type Security = (u8, [u8; 12]);
+
+pub fn read(bytes: &[u8]) -> Result<Vec<Security>, Refusal> {
+    let count = bytes
+        .first_chunk()
+        .map(|&word| usize::from(u16::from_le_bytes(word)))
+        .filter(|count| (1..=32).contains(count) && bytes.len() == 2 + 13 * count)
+        .ok_or(Refusal::RegisterSize)?;
+    let (classes, isins) = bytes[2..].split_at(count);
+    let mut securities: Vec<Security> = Vec::new();
+    for (&class, isin) in classes.iter().zip(isins.chunks_exact(12)) {
+        let isin: [u8; 12] = isin.try_into().expect("a chunk of twelve bytes");
+        if !(1..=3).contains(&class) {
+            return Err(Refusal::Class);
+        }
+        if !is_isin(&isin) {
+            return Err(Refusal::Isin);
+        }
+        if securities.iter().any(|&(_, earlier)| earlier == isin) {
+            return Err(Refusal::RepeatedIsin);
+        }
+        securities.push((class, isin));
+    }
+    Ok(securities)
+}
+
+/// ISO 6166: country letters, nine digits or capitals, and a check digit by the double-add-double formula.
+fn is_isin(isin: &[u8; 12]) -> bool {
+    isin[..2].iter().all(u8::is_ascii_uppercase)
+        && isin[2..11].iter().all(|c| c.is_ascii_uppercase() || c.is_ascii_digit())
+        && isin[11].is_ascii_digit()
+        && weighted_sum(isin) % 10 == 0
+}
+
+/// The digit sums added up; the check digit itself counts once.
+pub fn weighted_sum(isin: &[u8; 12]) -> u32 {
+    // In base 36 the letters are 10 to 35; written in base 10 they give two digits.
+    let digits: String =
+        isin.iter().filter_map(|&c| char::from(c).to_digit(36)).map(|number| number.to_string()).collect();
+    digits
+        .chars()
+        .rev()
+        .filter_map(|digit| digit.to_digit(10))
+        .zip([1, 2].into_iter().cycle())
+        .map(|(digit, weight)| digit * weight)
+        .map(|product| product / 10 + product % 10)
+        .sum()
+}
