@@ -1,0 +1,228 @@
+-- What an accepted call tells: each of its reasons does not apply. And what holds of every history, where each accepted call keeps it.
+use Prim.Native.Nat.{ℕ, zero, suc, _+_, _-_, _≤_, _<_}
+use native.Mathlib.Omega.{arith}
+use mathlib.Core.Path.{_≡_, refl, ap, sym, _∙_}
+use mathlib.Core.Logic.{_≢_}
+use mathlib.Core.List.{List, [], _∷_, _++_}
+use mathlib.Core.Bool.{Bool, true, false, not, _&&_, _||_}
+use lib.ListN.{length}
+use lib.Dec.{ltb, leb, eqb}
+use borrow.Author.Tests.{ltb-true, ltb-false, leb-true, leb-false, eqb-true, eqb-false, not-false}
+use Rattle.laws.specs.Lists.{some}
+use Rattle.laws.specs.Asked.{and-left, and-right, or-left, or-right}
+use Rattle.laws.specs.Refusals.{accepted, none-applies}
+use Rattle.rules.specs.Windows.{stepKind}
+use Rattle.rules.specs.declared.Step.the-variants as step
+use Rattle.events.specs.declared.Trade.{Trade}
+use Rattle.events.specs.declared.Price.{Price}
+use Rattle.events.specs.declared.Delivery.{Delivery}
+use Rattle.events.specs.declared.Attempt.{Attempt}
+use Rattle.events.specs.declared.Offer.{Offer}
+use Rattle.events.specs.declared.Award as asked
+use Rattle.events.specs.declared.Confirm.{Confirm}
+use Rattle.events.specs.declared.Cash.{Cash}
+use Rattle.events.specs.declared.Event.{Event}
+use Rattle.events.specs.declared.Event.the-variants as event
+use Rattle.plain.specs.declared.Position.{Position}
+use Rattle.plain.specs.Book.{Book, there, positionOf, awardOf, latestOf}
+use Rattle.plain.specs.Dealing.{due}
+use Rattle.plain.specs.Auction.{failing, unconfirmed}
+use Rattle.plain.specs.Calls.{Call, call, done, handsOut}
+use Rattle.plain.specs.Refusals.{isMember, isSecurity, isQuantity, isPrice, stepToday, inWindow, free, auctionRuns, auctionOn, reasons, refusal}
+use Rattle.plain.specs.Histories.{eventOf, next, pieces, run}
+
+-- a number between two bounds, from the test
+pub record Within (low high n : ℕ) : Type 0 where
+  pub above : low ≤ n
+  pub below : n ≤ high
+
+pub within : (low high n : ℕ) → leb low n && leb n high ≡ true → Within low high n
+within low high n e =
+    record {
+      above = leb-true low n (and-left (leb low n) (leb n high) e);
+      below = leb-true n high (and-right (leb low n) (leb n high) e);
+    }
+
+module _ (b : Book) where
+  pub record TradeTaken (t : Trade) : Type 0 where
+    pub seller : Within 1 63 (t .seller)
+    pub buyer : Within 1 63 (t .buyer)
+    pub security : Within 1 (b .register .count) (t .security)
+    pub quantity : Within 1 1000000 (t .quantity)
+    pub price : Within 1 10000000 (t .price)
+    pub others : t .seller ≢ t .buyer
+    pub room : b .past + length (b .trades) < 512
+
+  pub record PriceTaken (p : Price) : Type 0 where
+    pub security : Within 1 (b .register .count) (p .security)
+    pub price : Within 1 10000000 (p .price)
+
+  pub record DeliveryTaken (d : Delivery) : Type 0 where
+    pub held : Within 1 (length (b .positions)) (d .position)
+    pub some-units : d .quantity ≢ 0
+    pub short : positionOf b (d .position) .short ≡ true
+    pub is-due : due (b .day) (positionOf b (d .position)) ≡ true
+    pub quiet : auctionOn b (d .position) ≡ false
+    pub enough : d .quantity ≤ free b (d .position)
+
+  pub record AttemptTaken (a : Attempt) : Type 0 where
+    pub held : Within 1 (length (b .positions)) (a .position)
+    pub short : positionOf b (a .position) .short ≡ true
+    pub window : stepKind (stepToday b (positionOf b (a .position))) ≡ 4
+    pub quiet : b .auction .position ≡ 0
+    pub priced : latestOf b (positionOf b (a .position) .security) ≢ 0
+    pub few : length (b .marks) < 16
+    pub unmarked : some (λ n. eqb n (a .position)) (b .marks) ≡ false
+    pub unsettled : positionOf b (a .position) .unsettled ≢ 0
+
+  pub record OfferTaken (o : Offer) : Type 0 where
+    pub offerer : Within 1 63 (o .offerer)
+    pub held : Within 1 (length (b .positions)) (o .position)
+    pub quantity : Within 1 1000000 (o .quantity)
+    pub price : Within 1 10000000 (o .price)
+    pub running : auctionOn b (o .position) ≡ true
+    pub fulfilling : failing (b .day) (b .positions) (positionOf b (o .position) .security) (o .offerer) ≡ false
+    pub cheap : o .price ≤ b .auction .ceiling
+    pub few : length (b .auction .offers) < 16
+
+  pub record AwardTaken (a : asked.Award) : Type 0 where
+    pub held : Within 1 (length (b .positions)) (a .position)
+    pub running : auctionOn b (a .position) ≡ true
+
+  pub record ConfirmTaken (c : Confirm) : Type 0 where
+    pub held : Within 1 (length (b .awards)) (c .award)
+    pub unconfirmed : awardOf b (c .award) .confirmed ≡ false
+
+  pub record CashTaken (c : Cash) : Type 0 where
+    pub held : Within 1 (length (b .positions)) (c .position)
+    pub short : positionOf b (c .position) .short ≡ true
+    pub window : stepKind (stepToday b (positionOf b (c .position))) ≡ 8
+    pub priced : latestOf b (positionOf b (c .position) .security) ≢ 0
+    pub unsettled : positionOf b (c .position) .unsettled ≢ 0
+
+  pub record CloseTaken : Type 0 where
+    pub quiet : b .auction .position ≡ 0
+    pub early : b .day < 9999
+
+  unfolding-all : Unit {0}
+  unfolding reasons refusal
+  unfolding-all = tt
+
+  pub trade-taken : (t : Trade) (sheet : ℕ) → refusal b (call (event.Trade t) sheet) ≡ 0 → TradeTaken t
+  unfolding unfolding-all
+  trade-taken t sheet e =
+      let h = none-applies (reasons b (call (event.Trade t) sheet)) refl e in
+      let members = not-false _ (h .0) in
+      record {
+        seller = within 1 63 (t .seller) (and-left (isMember (t .seller)) (isMember (t .buyer)) members);
+        buyer = within 1 63 (t .buyer) (and-right (isMember (t .seller)) (isMember (t .buyer)) members);
+        security = within 1 (b .register .count) (t .security) (not-false _ (h .1 .0));
+        quantity = within 1 1000000 (t .quantity) (not-false _ (h .1 .1 .0));
+        price = within 1 10000000 (t .price) (not-false _ (h .1 .1 .1 .0));
+        others = eqb-false _ _ (h .1 .1 .1 .1 .0);
+        room = leb-false _ _ (h .1 .1 .1 .1 .1 .0);
+      }
+
+  pub price-taken : (p : Price) (sheet : ℕ) → refusal b (call (event.Price p) sheet) ≡ 0 → PriceTaken p
+  unfolding unfolding-all
+  price-taken p sheet e =
+      let h = none-applies (reasons b (call (event.Price p) sheet)) refl e in
+      record {
+        security = within 1 (b .register .count) (p .security) (not-false _ (h .0));
+        price = within 1 10000000 (p .price) (not-false _ (h .1 .0));
+      }
+
+  pub delivery-taken : (d : Delivery) (sheet : ℕ) → refusal b (call (event.Delivery d) sheet) ≡ 0 → DeliveryTaken d
+  unfolding unfolding-all
+  delivery-taken d sheet e =
+      let h = none-applies (reasons b (call (event.Delivery d) sheet)) refl e in
+      record {
+        held = within 1 (length (b .positions)) (d .position) (not-false _ (h .1 .0));
+        some-units = eqb-false _ _ (h .1 .1 .0);
+        short = not-false _ (h .1 .1 .1 .0);
+        is-due = not-false _ (h .1 .1 .1 .1 .0);
+        quiet = h .1 .1 .1 .1 .1 .0;
+        enough = ltb-false _ _ (h .1 .1 .1 .1 .1 .1 .0);
+      }
+
+  pub attempt-taken : (a : Attempt) (sheet : ℕ) → refusal b (call (event.Attempt a) sheet) ≡ 0 → AttemptTaken a
+  unfolding unfolding-all
+  attempt-taken a sheet e =
+      let h = none-applies (reasons b (call (event.Attempt a) sheet)) refl e in
+      let marked = h .1 .1 .1 .1 .1 .0 in
+      let at-zero : b .auction .position ≤ 0 = ltb-false _ _ (h .1 .1 .1 .0) in
+      record {
+        held = within 1 (length (b .positions)) (a .position) (not-false _ (h .0));
+        short = not-false _ (h .1 .0);
+        window = eqb-true _ _ (not-false _ (h .1 .1 .0));
+        quiet = omega arith;
+        priced = eqb-false _ _ (h .1 .1 .1 .1 .0);
+        few = leb-false _ _ (or-left (leb 16 (length (b .marks))) (some (λ n. eqb n (a .position)) (b .marks)) marked);
+        unmarked = or-right (leb 16 (length (b .marks))) (some (λ n. eqb n (a .position)) (b .marks)) marked;
+        unsettled = eqb-false _ _ (h .1 .1 .1 .1 .1 .1 .0);
+      }
+
+  pub offer-taken : (o : Offer) (sheet : ℕ) → refusal b (call (event.Offer o) sheet) ≡ 0 → OfferTaken o
+  unfolding unfolding-all
+  offer-taken o sheet e =
+      let h = none-applies (reasons b (call (event.Offer o) sheet)) refl e in
+      record {
+        offerer = within 1 63 (o .offerer) (not-false _ (h .0));
+        held = within 1 (length (b .positions)) (o .position) (not-false _ (h .1 .0));
+        quantity = within 1 1000000 (o .quantity) (not-false _ (h .1 .1 .0));
+        price = within 1 10000000 (o .price) (not-false _ (h .1 .1 .1 .0));
+        running = not-false _ (h .1 .1 .1 .1 .0);
+        fulfilling = h .1 .1 .1 .1 .1 .0;
+        cheap = ltb-false _ _ (h .1 .1 .1 .1 .1 .1 .0);
+        few = leb-false _ _ (h .1 .1 .1 .1 .1 .1 .1 .0);
+      }
+
+  pub award-taken : (a : asked.Award) (sheet : ℕ) → refusal b (call (event.Award a) sheet) ≡ 0 → AwardTaken a
+  unfolding unfolding-all
+  award-taken a sheet e =
+      let h = none-applies (reasons b (call (event.Award a) sheet)) refl e in
+      record {
+        held = within 1 (length (b .positions)) (a .position) (not-false _ (h .0));
+        running = not-false _ (h .1 .0);
+      }
+
+  pub confirm-taken : (c : Confirm) (sheet : ℕ) → refusal b (call (event.Confirm c) sheet) ≡ 0 → ConfirmTaken c
+  unfolding unfolding-all
+  confirm-taken c sheet e =
+      let h = none-applies (reasons b (call (event.Confirm c) sheet)) refl e in
+      record { held = within 1 (length (b .awards)) (c .award) (not-false _ (h .1 .0)); unconfirmed = h .1 .1 .0 }
+
+  pub cash-taken : (c : Cash) (sheet : ℕ) → refusal b (call (event.Cash c) sheet) ≡ 0 → CashTaken c
+  unfolding unfolding-all
+  cash-taken c sheet e =
+      let h = none-applies (reasons b (call (event.Cash c) sheet)) refl e in
+      record {
+        held = within 1 (length (b .positions)) (c .position) (not-false _ (h .1 .0));
+        short = not-false _ (h .1 .1 .0);
+        window = eqb-true _ _ (not-false _ (h .1 .1 .1 .0));
+        priced = eqb-false _ _ (h .1 .1 .1 .1 .0);
+        unsettled = eqb-false _ _ (h .1 .1 .1 .1 .1 .0);
+      }
+
+  pub close-taken : (sheet : ℕ) → refusal b (call event.Close sheet) ≡ 0 → CloseTaken
+  unfolding unfolding-all
+  close-taken sheet e =
+      let h = none-applies (reasons b (call event.Close sheet)) refl e in
+      let at-zero : b .auction .position ≤ 0 = ltb-false _ _ (h .0) in
+      record { quiet = omega arith; early = leb-false _ _ (h .1 .0) }
+
+-- what holds of the done and of the kept holds of what the refusal number chooses
+pub either : {A : Type 0} (P : A → Type 0) (n : ℕ) (x y : A) → (n ≡ 0 → P x) → P y → P (accepted n x y)
+either P zero x y h k = h refl
+either P (suc n) x y h k = k
+
+-- what each accepted call keeps, every history keeps
+module _ (P : Book → Type 0) (step : (b : Book) (c : Call) → refusal b c ≡ 0 → P b → P (done b (eventOf c))) where
+  pub next-keeps : (b : Book) (c : Call) → P b → P (next b c)
+  unfolding next
+  next-keeps b c h = either P (refusal b c) (done b (eventOf c)) b (λ e. step b c e h) h
+
+  pub run-keeps : (b : Book) (cs : List Call) → P b → P (run b cs)
+  unfolding run
+  run-keeps b [] h = h
+  run-keeps b (c ∷ cs) h = run-keeps (next b c) cs (next-keeps b c h)

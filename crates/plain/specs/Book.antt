@@ -1,0 +1,94 @@
+-- Document 01, 'The plain book': what the plain book keeps, and the book as it opens.
+use Prim.Native.Nat.{ℕ, _-_, _+_, _≤_}
+use mathlib.Core.List.{List, [], _∷_}
+use mathlib.Core.Bool.{Bool, true, false, _&&_}
+use lib.ListN.{length, getD, replicate}
+use lib.Dec.{leb}
+use Rattle.register.specs.declared.Register.{Register}
+use Rattle.events.specs.declared.Trade.{Trade}
+use Rattle.events.specs.declared.Offer.{Offer}
+use Rattle.plain.specs.declared.Position.{Position}
+use Rattle.plain.specs.declared.Award.{Award}
+use Rattle.plain.specs.declared.Ledger.{Ledger}
+
+-- "the book's single auction, on one short", its ceiling, and its offers in order of arrival. Position 0: no auction runs.
+pub record Auction : Type 0 where
+  pub position : ℕ
+  pub ceiling : ℕ
+  pub offers : List Offer
+
+-- "It keeps register, day, trades, prices, positions, auction, awards, attempt marks, accounts."
+pub record Book : Type 0 where
+  pub register : Register
+  pub day : ℕ
+  -- how many trades of earlier days it holds, and the trades of today
+  pub past : ℕ
+  pub trades : List Trade
+  -- the latest price of each security, 0 where it never had one
+  pub prices : List ℕ
+  pub positions : List Position
+  pub auction : Auction
+  -- the awards of today, in order
+  pub awards : List Award
+  -- the positions that an attempt was opened on today, in order
+  pub marks : List ℕ
+  pub ledger : Ledger
+
+abbrev pub noAuction : Auction
+noAuction = record { position = 0; ceiling = 0; offers = [] }
+
+-- "Accounts start at 0 cents"; "A new book is at business day 1 and has no trade, position or price."
+unfoldable pub new : Register → Book
+new register =
+    record {
+      register = register;
+      day = 1;
+      past = 0;
+      trades = [];
+      prices = replicate 32 0;
+      positions = [];
+      auction = noAuction;
+      awards = [];
+      marks = [];
+      ledger = record { credits = replicate 64 0; debits = replicate 64 0 };
+    }
+
+-- what stands where no position or award is
+abbrev pub noPosition : Position
+noPosition =
+    record {
+      member = 0;
+      security = 0;
+      short = false;
+      settlement = record { 0 = 0 };
+      reference = 0;
+      netted = 0;
+      delivered = 0;
+      bought = 0;
+      cash = 0;
+      unsettled = 0;
+    }
+
+abbrev pub noAward : Award
+noAward = record { position = 0; offerer = 0; quantity = 0; price = 0; confirmed = false }
+
+-- "Positions are numbered from 1", "awards are numbered from 1", and so are securities: number n of a list
+abbrev pub nth : {A : Type 0} → A → List A → ℕ → A
+nth none list n = getD list (n - 1) none
+
+-- number n of a list is there
+abbrev pub there : {A : Type 0} → List A → ℕ → Bool
+there list n = leb 1 n && leb n (length list)
+
+abbrev pub positionOf : Book → ℕ → Position
+positionOf b n = nth noPosition (b .positions) n
+
+abbrev pub awardOf : Book → ℕ → Award
+awardOf b n = nth noAward (b .awards) n
+
+-- the class of a security, and its latest price, 0 where it never had one
+abbrev pub classOf : Book → ℕ → ℕ
+classOf b security = nth 0 (b .register .classes) security
+
+abbrev pub latestOf : Book → ℕ → ℕ
+latestOf b security = nth 0 (b .prices) security

@@ -1,0 +1,76 @@
+-- Document 01, 'The plain book': calls one after the other. "A refused call changes nothing."
+use Prim.Native.Nat.{ℕ, zero, suc, _+_}
+use mathlib.Core.List.{List, [], _∷_, _++_}
+use mathlib.Core.Bool.{Bool, true, false}
+use lib.ListN.{getD}
+use lib.IntN.{ℤ, subℕ}
+use Rattle.laws.specs.Refusals.{accepted}
+use Rattle.events.specs.declared.Trade.{Trade}
+use Rattle.events.specs.declared.Event.{Event}
+use Rattle.events.specs.declared.Event.the-variants as event
+use Rattle.plain.specs.declared.Position.{Position}
+use Rattle.plain.specs.declared.Piece.{Piece}
+use Rattle.plain.specs.Book.{Book, new}
+use Rattle.plain.specs.Netting.{Key, keys, units, highest, made, net, netted}
+use Rattle.plain.specs.Dealing.{due, longOf, longsOn, takers, share, dealTo, names, taken, takenBy, lowered, lowering}
+use Rattle.plain.specs.Auction.{failing, insert, byPrice, awarded, unconfirmed, confirmedAward}
+use Rattle.plain.specs.Charging.{Charge, credited, debited, posted, charge, buyInCharges, priced, payment, cashCharges, awardFines, lateFines, closeCharges}
+use Rattle.plain.specs.Calls.{Call, call, dealt, discharged, auctionAwards, handsOut, charges, amount, done}
+use Rattle.plain.specs.Refusals.{stepToday, free, reasons, refusal}
+
+abbrev pub eventOf : Call → Event
+eventOf (call e sheet) = e
+
+-- what one call makes of the book, and the pieces, the quantity and the charges that it gives
+unfoldable pub next : Book → Call → Book
+next b c = let after = done b (eventOf c) in accepted (refusal b c) after b
+
+unfoldable pub pieces : Book → Call → List Piece
+pieces b c = let given = handsOut b (eventOf c) in accepted (refusal b c) given []
+
+unfoldable pub quantity : Book → Call → ℕ
+quantity b c = let given = amount b (eventOf c) in accepted (refusal b c) given 0
+
+unfoldable pub charged : Book → Call → List Charge
+charged b c = let given = charges b (eventOf c) in accepted (refusal b c) given []
+
+-- the same over a list of calls: the book after it, all pieces handed out, all charges, and the events that were accepted
+unfoldable pub run : Book → List Call → Book
+run b [] = b
+run b (c ∷ cs) = run (next b c) cs
+
+unfoldable pub handed : Book → List Call → List Piece
+handed b [] = []
+handed b (c ∷ cs) = pieces b c ++ handed (next b c) cs
+
+unfoldable pub allCharges : Book → List Call → List Charge
+allCharges b [] = []
+allCharges b (c ∷ cs) = charged b c ++ allCharges (next b c) cs
+
+unfoldable pub acceptedEvents : Book → List Call → List Event
+acceptedEvents b [] = []
+acceptedEvents b (c ∷ cs) =
+    let given = eventOf c ∷ [] in
+    accepted (refusal b c) given [] ++ acceptedEvents (next b c) cs
+
+-- the positions that the accepted trades and closes alone make, from a day and the trades of that day so far
+unfoldable pub formed : List Key → ℕ → List Trade → List Event → List Position
+formed ks day trades [] = []
+formed ks day trades (event.Trade t ∷ es) = formed ks day (trades ++ t ∷ []) es
+formed ks day trades (event.Price p ∷ es) = formed ks day trades es
+formed ks day trades (event.Delivery d ∷ es) = formed ks day trades es
+formed ks day trades (event.Attempt a ∷ es) = formed ks day trades es
+formed ks day trades (event.Offer o ∷ es) = formed ks day trades es
+formed ks day trades (event.Award a ∷ es) = formed ks day trades es
+formed ks day trades (event.Confirm c ∷ es) = formed ks day trades es
+formed ks day trades (event.Cash c ∷ es) = formed ks day trades es
+formed ks day trades (event.Close ∷ es) = netted day trades ks ++ formed ks (suc day) [] es
+
+-- "a credit is positive": the balance of an account
+unfoldable pub balance : Book → ℕ → ℤ
+balance b k = subℕ (getD (b .ledger .credits) k 0) (getD (b .ledger .debits) k 0)
+
+-- Unfolding this unfolds the whole book, for worked examples.
+unfoldable pub computing : Unit {0}
+unfolding new keys units highest made net netted due longOf longsOn takers share dealTo names taken takenBy lowered lowering failing insert byPrice awarded unconfirmed confirmedAward credited debited posted charge buyInCharges priced payment cashCharges awardFines lateFines closeCharges dealt discharged auctionAwards handsOut charges amount done stepToday free reasons refusal next pieces quantity charged run handed allCharges acceptedEvents formed balance
+computing = tt

@@ -1,0 +1,10 @@
+pub mod Book
+pub mod Netting
+pub mod Dealing
+pub mod Auction
+pub mod Charging
+pub mod Calls
+pub mod Refusals
+pub mod Histories
+pub mod Worked
+pub mod Table

@@ -1,0 +1,99 @@
+-- The starred lines of document 01, 'Edges and a squeeze', and the player's example: one table of values by the definitions and values expected.
+-- Every row holds, by computation.
+use Prim.Native.Nat.{ℕ}
+use mathlib.Core.Path.{_≡_, refl}
+use mathlib.Core.List.{List, [], _∷_, _++_, map}
+use mathlib.Core.Bool.{Bool, true, false}
+use lib.ListN.{replicate}
+use lib.IntN.{ℤ, pos, negℤ}
+use Rattle.laws.specs.Lists.{range}
+use Rattle.rules.specs.declared.Step.{Step}
+use Rattle.rules.specs.declared.Step.the-variants as step
+use Rattle.rules.specs.Windows.{shareStep, recurringStep, stepOn}
+use Rattle.rules.specs.Prices.{ceiling, raised, cashPrice}
+use Rattle.rules.specs.Charges.{roundedHalfUp, fee, cashFee, awardFine, lateFine, buyInCharge, inCents}
+use Rattle.register.specs.Isin.{isin}
+use Rattle.register.specs.Isin as check
+use Rattle.plain.specs.declared.Position.{Position}
+use Rattle.plain.specs.declared.Piece.{Piece}
+use Rattle.plain.specs.declared.Manner.{Manner}
+use Rattle.plain.specs.declared.Manner.the-variants as manner
+use Rattle.plain.specs.Book.{Book, new}
+use Rattle.plain.specs.Histories.{run, handed, balance, computing}
+use Rattle.plain.specs.Worked.{refusals, quantities, oneShare, squeeze, example}
+
+-- a row: a value by the definitions, and the value expected
+pub record Row : Type 1 where
+  pub of : Type 0
+  pub value : of
+  pub expected : of
+
+infix 20 _is_
+abbrev _is_ : {A : Type 0} → A → A → Row
+_is_ {A} v e = record { of = A; value = v; expected = e }
+
+abbrev Holds : List Row → Type 0
+Holds [] = Unit {0}
+Holds (r ∷ rs) = (r .value ≡ r .expected) × Holds rs
+
+abbrev piece : ℕ → ℕ → ℕ → Manner → ℕ → Piece
+piece short long quantity manner cents =
+    record { short = short; long = long; quantity = quantity; manner = manner; cents = cents }
+
+-- the figures of a position's line: netted, delivered, bought in, cash, open
+abbrev figures : Position → List ℕ
+figures p = p .netted ∷ p .delivered ∷ p .bought ∷ p .cash ∷ p .unsettled ∷ []
+
+-- the digits of an ISIN that ends in the given one: X is 88, 0 is 48
+abbrev xx : ℕ → List ℕ
+xx digit = 88 ∷ 88 ∷ replicate 9 48 ++ digit ∷ []
+
+abbrev settled : Book
+settled = run (new oneShare) squeeze
+
+abbrev delivered : Book
+delivered = run (new oneShare) example
+
+pub table : List Row
+table =
+    -- "Fee on value 1,000,019,999: 25,000; 1,000,020,000: 25,001; above 4,000,000,000: 100,000."
+    (cashFee 1000019999 is 25000)
+    ∷ (cashFee 1000020000 is 25001)
+    ∷ (cashFee 4000000001 is 100000)
+    ∷ (cashFee 4000020000 is 100000)
+    -- "Buy-in fine on 250,001,249: 100,000; 250,001,250: 100,001."
+    ∷ (awardFine 1 250001249 is 100000)
+    ∷ (awardFine 1 250001250 is 100001)
+    -- "Late fine on 4,999: 0; 5,000: 1."
+    ∷ (lateFine 4999 is 0)
+    ∷ (lateFine 5000 is 1)
+    -- "Ceiling at price 101: 202; class 3: 104."
+    ∷ (ceiling 1 101 is 202)
+    ∷ (ceiling 3 101 is 104)
+    -- "Class 3 at 20,000: cash price 20,300, not 20,600."
+    ∷ (cashPrice 3 20000 20000 20000 is 20300)
+    -- "Class 1 r 4, 5, 7, 8: none, attempt, attempt, cash. Class 2 r 26, 27, 28, 30, 36, 37: none, attempt, none, cash, cash, attempt."
+    ∷ (map (stepOn 1) (4 ∷ 5 ∷ 7 ∷ 8 ∷ []) is (step.Nothing ∷ step.Attempt ∷ step.Attempt ∷ step.Cash ∷ []))
+    ∷ (map (stepOn 2) (26 ∷ 27 ∷ 28 ∷ 30 ∷ 36 ∷ 37 ∷ []) is (step.Nothing ∷ step.Attempt ∷ step.Nothing ∷ step.Cash ∷ step.Cash ∷ step.Attempt ∷ []))
+    -- "XX0000000002 passes, XX0000000003 doesn't."
+    ∷ (isin (xx 50) is true)
+    ∷ (isin (xx 51) is false)
+    -- "30 bought in at 1,190 against 1,200: charge -300."
+    ∷ (inCents (buyInCharge 30 1190 1200) is negℤ (pos 300))
+    -- "Squeeze, class 1": the refusal 17 of day 2, the quantities, the pieces, and "Accounts 0 to 4"
+    ∷ (refusals (new oneShare) squeeze is (replicate 4 0 ++ 17 ∷ replicate 16 0))
+    ∷ (quantities (new oneShare) squeeze is (100 ∷ 50 ∷ 0 ∷ 0 ∷ 0 ∷ 0 ∷ 30 ∷ replicate 6 0 ++ 40 ∷ 30 ∷ 70 ∷ 30 ∷ 0 ∷ 0 ∷ 0 ∷ 90 ∷ []))
+    ∷ (handed (new oneShare) squeeze
+    is (piece 1 2 30 manner.Delivered 0 ∷ piece 1 2 30 manner.BoughtIn 0 ∷ piece 1 2 40 manner.Cash 88000 ∷ piece 1 3 50 manner.Cash 110000 ∷ []))
+    ∷ (map (balance settled) (range 0 5) is (pos 126595 ∷ negℤ (pos 224595) ∷ pos 88000 ∷ pos 110000 ∷ negℤ (pos 100000) ∷ []))
+    -- the player's example: its lines `e`, `p` and `s`, and no account's line
+    ∷ (refusals (new oneShare) example is (0 ∷ 0 ∷ 0 ∷ 0 ∷ []))
+    ∷ (quantities (new oneShare) example is (100 ∷ 0 ∷ 0 ∷ 100 ∷ []))
+    ∷ (handed (new oneShare) example is (piece 1 2 100 manner.Delivered 0 ∷ []))
+    ∷ (map figures (delivered .positions) is ((100 ∷ 100 ∷ 0 ∷ 0 ∷ 0 ∷ []) ∷ (100 ∷ 100 ∷ 0 ∷ 0 ∷ 0 ∷ []) ∷ []))
+    ∷ (map (balance delivered) (range 0 64) is replicate 64 (pos 0))
+    ∷ []
+
+pub every-row : Holds table
+unfolding table shareStep recurringStep stepOn ceiling raised cashPrice roundedHalfUp fee cashFee awardFine lateFine buyInCharge inCents check.computing computing refusals quantities
+every-row = (refl, (refl, (refl, (refl, (refl, (refl, (refl, (refl, (refl, (refl, (refl, (refl, (refl, (refl, (refl, (refl, (refl, (refl, (refl, (refl, (refl, (refl, (refl, (refl, (refl, tt)))))))))))))))))))))))))

@@ -1,0 +1,71 @@
+-- Document 01, 'Edges and a squeeze' and 'Event files and the player': the two worked histories as lists of calls on the plain book.
+use Prim.Native.Nat.{ℕ}
+use mathlib.Core.List.{List, [], _∷_, _++_}
+use lib.ListN.{replicate}
+use Rattle.register.specs.declared.Register.{Register}
+use Rattle.events.specs.declared.Event.{Event}
+use Rattle.events.specs.declared.Event.the-variants as event
+use Rattle.plain.specs.Book.{Book}
+use Rattle.plain.specs.Calls.{Call, call}
+use Rattle.plain.specs.Refusals.{refusal}
+use Rattle.plain.specs.Histories.{next, quantity}
+
+-- each event as a call with a sheet of 1,024 places
+abbrev pub calls : List Event → List Call
+calls [] = []
+calls (e ∷ es) = call e 1024 ∷ calls es
+
+-- the refusal number, and the quantity, of each call
+unfoldable pub refusals : Book → List Call → List ℕ
+refusals b [] = []
+refusals b (c ∷ cs) = refusal b c ∷ refusals (next b c) cs
+
+unfoldable pub quantities : Book → List Call → List ℕ
+quantities b [] = []
+quantities b (c ∷ cs) = quantity b c ∷ quantities (next b c) cs
+
+-- one security of class 1, and events about it and its first short, position 1
+abbrev pub oneShare : Register
+oneShare = record { count = 1; classes = 1 ∷ replicate 31 0; isins = replicate 384 0 }
+
+abbrev trade : ℕ → ℕ → ℕ → ℕ → Event
+trade seller buyer quantity price =
+    event.Trade (record { seller = seller; buyer = buyer; security = 1; quantity = quantity; price = price })
+
+abbrev price : ℕ → Event
+price p = event.Price (record { security = 1; price = p })
+
+abbrev delivery : ℕ → Event
+delivery q = event.Delivery (record { position = 1; quantity = q })
+
+abbrev offer : ℕ → ℕ → ℕ → Event
+offer member quantity price = event.Offer (record { position = 1; offerer = member; quantity = quantity; price = price })
+
+abbrev closes : ℕ → List Event
+closes n = replicate n event.Close
+
+-- "day 1, member 1 sells 100 to 2 at 1,000 and 50 to 3 at 1,200; price 1,100. Day 2: delivery refused 17. Day 3: 30 delivered.
+-- Day 8: attempt; offers 40 at 1,300 (member 4), 30 at 1,250 (member 5); award 70; award 1 confirmed. Day 11: cash 90"
+abbrev pub squeeze : List Call
+squeeze =
+    calls
+    (trade 1 2 100 1000
+    ∷ trade 1 3 50 1200
+    ∷ price 1100
+    ∷ event.Close
+    ∷ delivery 30
+    ∷ event.Close
+    ∷ delivery 30
+    ∷ closes 5
+    ++ (event.Attempt (record { position = 1 })
+    ∷ offer 4 40 1300
+    ∷ offer 5 30 1250
+    ∷ event.Award (record { position = 1 })
+    ∷ event.Confirm (record { award = 1 })
+    ∷ closes 3
+    ++ event.Cash (record { position = 1 })
+    ∷ []))
+
+-- "member 1 sells to member 2 100 units of security 1 at 1,000; close; close; deliver 100 of position 1"
+abbrev pub example : List Call
+example = calls (trade 1 2 100 1000 ∷ event.Close ∷ event.Close ∷ delivery 100 ∷ [])
