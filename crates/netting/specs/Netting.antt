@@ -1,0 +1,25 @@
+-- What netting a day asks of the machine's tables, and what it ensures.
+use Prim.Native.Nat.{ℕ, _+_, _*_, _≤_}
+use mathlib.Core.Path.{_≡_}
+use mathlib.Core.List.{_++_}
+use lib.ListN.{length}
+use Rattle.laws.specs.Lists.{All}
+use Rattle.laws.specs.declared.BusinessDay.{BusinessDay}
+use Rattle.plain.specs.Netting.{keys, netted}
+use Rattle.plain.proofs.Invariants.{TradeFits}
+use Rattle.tables.specs.declared.Positions.{Positions}
+use Rattle.tables.specs.declared.Trades.{Trades}
+use Rattle.tables.specs.Tables.{today, positions, TradesFit, PositionsFit}
+
+pub record DayFits (table : Positions) (trades : Trades) (day : BusinessDay) (securities : ℕ) : Type 0 where
+  pub positions-fit : PositionsFit table
+  pub trades-fit : TradesFit trades
+  pub securities-fit : securities ≤ 32
+  pub fair : All (TradeFits securities) (today trades)
+  -- a trade makes at most two positions
+  pub room : table .count + 2 * length (today trades) ≤ 1024
+  pub dated : day .0 ≤ 9999
+
+pub record DayNetted (table : Positions) (trades : Trades) (day : BusinessDay) (securities : ℕ) (r : Positions) : Type 0 where
+  pub made : positions r ≡ positions table ++ netted (day .0) (today trades) (keys securities)
+  pub fits : PositionsFit r

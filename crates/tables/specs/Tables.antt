@@ -1,0 +1,60 @@
+-- What each table of the machine's book stands for in the plain book, and what its counts are bounded by.
+use Prim.Native.Nat.{ℕ, _≤_}
+use mathlib.Core.Path.{_≡_}
+use mathlib.Core.List.{List}
+use lib.ListN.{length, take, drop}
+use Rattle.events.specs.declared.Trade.{Trade}
+use Rattle.plain.specs.declared.Position.{Position}
+use Rattle.plain.specs.declared.Piece.{Piece}
+use Rattle.plain.specs.declared.Award.{Award}
+use Rattle.plain.specs.Book as plain
+use Rattle.tables.specs.declared.Trades.{Trades}
+use Rattle.tables.specs.declared.Positions.{Positions}
+use Rattle.tables.specs.declared.Pieces.{Pieces}
+use Rattle.tables.specs.declared.Auction.{Auction}
+use Rattle.tables.specs.declared.Awards.{Awards}
+use Rattle.tables.specs.declared.Marks.{Marks}
+
+unfoldable pub today : Trades → List Trade
+today t = drop (t .netted) (take (t .count) (t .items))
+
+unfoldable pub positions : Positions → List Position
+positions t = take (t .count) (t .items)
+
+unfoldable pub pieces : Pieces → List Piece
+pieces t = take (t .count) (t .items)
+
+unfoldable pub auction : Auction → plain.Auction
+auction a = record { position = a .position; ceiling = a .ceiling; offers = take (a .count) (a .offers) }
+
+unfoldable pub awards : Awards → List Award
+awards t = take (t .count) (t .items)
+
+unfoldable pub marks : Marks → List ℕ
+marks t = take (t .count) (t .items)
+
+-- the places of each table, and how many of them may be in use
+pub record TradesFit (t : Trades) : Type 0 where
+  pub places : length (t .items) ≡ 512
+  pub held : t .count ≤ 512
+  pub past : t .netted ≤ t .count
+
+pub record PositionsFit (t : Positions) : Type 0 where
+  pub places : length (t .items) ≡ 1024
+  pub held : t .count ≤ 1024
+
+pub record PiecesFit (t : Pieces) : Type 0 where
+  pub places : length (t .items) ≡ 1024
+  pub held : t .count ≤ 1024
+
+pub record AuctionFits (a : Auction) : Type 0 where
+  pub places : length (a .offers) ≡ 16
+  pub held : a .count ≤ 16
+
+pub record AwardsFit (t : Awards) : Type 0 where
+  pub places : length (t .items) ≡ 256
+  pub held : t .count ≤ 256
+
+pub record MarksFit (t : Marks) : Type 0 where
+  pub places : length (t .items) ≡ 16
+  pub held : t .count ≤ 16
