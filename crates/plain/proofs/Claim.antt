@@ -62,6 +62,8 @@ pub record Claim (register : Register) (cs : List Call) : Type 0 where
   pub small : (k : ℕ) → Small (run (new register) cs) k
   -- "512 trades a book make at most 1,024 positions."
   pub few : length (run (new register) cs .positions) ≤ 1024
+  -- at most sixteen awards for each of sixteen attempts a day
+  pub few-awards : length (run (new register) cs .awards) ≤ 256
   -- what else holds of the book
   pub holds : Sound (run (new register) cs)
   -- a next call that discharges a short and is accepted hands out pieces that add up to its quantity, from that short to due longs of its security
@@ -81,6 +83,7 @@ claim register cs =
       zero-sum = accounts-zero Sound done-sound accountable register cs n;
       small = accounts-small Sound done-sound bounding (λ b c e s. sound-dealt b s c e) register cs n;
       few = standing-few (run (new register) cs) (h .standing);
+      few-awards = bounding (run (new register) cs) h .few;
       holds = h;
       discharges = λ c e s. discharge (run (new register) cs) c h e s;
       refuses = refused (run (new register) cs);

@@ -1,0 +1,4 @@
+pub mod Shares
+pub mod Lowered
+pub mod Walk
+pub mod Table

@@ -1,0 +1,112 @@
+-- The walk begins at the table that the caller gives, and what has come of it at its end is what the definitions say.
+use Prim.Native.Nat.{ℕ, _-_, _≤_}
+use native.Mathlib.Omega.{arith}
+use mathlib.Core.Path.{_≡_, refl, ap, sym, _∙_}
+use mathlib.Core.List.{List, []}
+use lib.ListN.{length, getD, set, take, length-set}
+use lib.Seq.{length-take-le, getD-take, take-set-lt}
+use Rattle.laws.specs.Lists.{All}
+use Rattle.laws.specs.Alls.{all-at, all-both, all-of, all-set}
+use Rattle.plain.specs.declared.Position.{Position}
+use Rattle.plain.specs.declared.Piece.{Piece}
+use Rattle.plain.specs.declared.Manner.{Manner}
+use Rattle.plain.specs.Book.{noPosition}
+use Rattle.plain.specs.Dealing.{lowering}
+use Rattle.plain.proofs.Accepted.{Within}
+use Rattle.plain.proofs.Invariants.{Whole}
+use Rattle.plain.proofs.Order.{takers-in-order}
+use Rattle.tables.specs.declared.Positions.{Positions}
+use Rattle.tables.specs.declared.Pieces.{Pieces}
+use Rattle.tables.specs.Tables as tables
+use Rattle.positions.specs.Dealing.{positionOf, loweredBy, Sized, Lowerable, Dealing, dealtOut, DealtOut, NoPieces}
+use Rattle.positions.proofs.Shares.{handed}
+use Rattle.positions.proofs.Lowered.{rising-set, lowered-sized, same-pieces, same-positions}
+use Rattle.positions.proofs.Walk.{State, Stands, Walked}
+
+module _ (table : Positions) (day short quantity : ℕ) (h : Dealing table day short quantity) where
+  -- the short
+  abbrev own : Position
+  own = getD (table .items) (short - 1) noPosition
+
+  abbrev ps : List Position
+  ps = tables.positions table
+
+  own-is : positionOf table short ≡ own
+  unfolding tables.positions
+  own-is = getD-take (table .count) (table .items) (short - 1) noPosition (omega (arith, h .held .above, h .held .below))
+
+  table-length : length ps ≡ table .count
+  unfolding tables.positions
+  table-length = length-take-le (table .count) (table .items) (omega (arith, h .fits .places, h .fits .held))
+
+  all-sized : All Sized ps
+  all-sized =
+      all-of (λ p. Whole p × (p .netted ≤ 512000000)) Sized ps (λ p e. record { whole = e .0; bounded = e .1 })
+      (all-both Whole (λ p. p .netted ≤ 512000000) ps (h .whole) (h .bounded))
+
+  own-lowerable : Lowerable (positionOf table short) quantity
+  own-lowerable =
+      record {
+        enough = h .enough;
+        sized = all-at Sized ps (short - 1) noPosition (omega (arith, table-length, h .held .above, h .held .below)) all-sized;
+      }
+
+  pub short-lowerable : Lowerable own quantity
+  short-lowerable = rw own-is at own-lowerable
+
+  -- the walk begins where the short, now x, has fallen by the quantity
+  module _ (manner : Manner) (x : Position) (low : x ≡ loweredBy manner quantity own) (none : Pieces) (e : NoPieces none) where
+    abbrev pub start : State
+    start =
+        record {
+          positions = record { items = set (table .items) (short - 1) x; count = table .count };
+          pieces = none;
+          left = quantity;
+          place = 0;
+        }
+
+    abbrev fallen : Position
+    fallen = loweredBy manner quantity (positionOf table short)
+
+    started : tables.positions (start .positions) ≡ set ps (short - 1) fallen
+    unfolding tables.positions
+    started =
+        take-set-lt (table .count) (table .items) (short - 1) x (omega (arith, h .held .above, h .held .below))
+        ∙ ap (set (take (table .count) (table .items)) (short - 1)) (low ∙ ap (loweredBy manner quantity) (sym own-is))
+
+    pub start-stands : Stands (table .count) start
+    start-stands =
+        record {
+          few = h .fits .held;
+          within = omega arith;
+          held = refl;
+          places = simp length-set (h .fits .places);
+          room = omega (arith, e .empty);
+          sheet = e .fits .places;
+          rising = rw started (rising-set ps (short - 1) fallen (omega (arith, table-length, h .held .above, h .held .below)) (unfold loweredBy in refl) (h .rising));
+          sized = rw started (all-set Sized ps (short - 1) fallen (lowered-sized manner quantity (positionOf table short) own-lowerable) all-sized);
+        }
+
+    dealt-list : handed manner short day (positionOf table short .security) 1 quantity ps ≡ dealtOut table day short quantity manner
+    dealt-list = rw (takers-in-order day (positionOf table short .security) ps (h .rising))
+
+    -- what has come of the walk is what the definitions say
+    pub walked-deals : (now : State) → Stands (table .count) now → Walked manner short day (own .security) start now
+        → DealtOut table day short quantity manner (record { positions = now .positions; pieces = now .pieces })
+    walked-deals now s w =
+        record {
+          pieces = w' .pieces ∙ rw (no-pieces, started) (same-pieces manner short day quantity ps held (h .is-short) (h .suffice) ∙ dealt-list);
+          positions = w' .positions ∙ rw started (same-positions manner short day quantity ps held (h .is-short) (h .suffice) ∙ ap (λ (xs : List Piece). lowering xs ps) dealt-list);
+          pieces-fit = record { places = s .sheet; held = omega (arith, s .room, s .within, s .few) };
+          positions-fit = record { places = s .places; held = omega (arith, s .held, s .few) };
+          count = s .held;
+        }
+      where
+        w' : Walked manner short day (positionOf table short .security) start now
+        w' = rw own-is w
+
+        held : Within 1 (length ps) short
+        held = record { above = h .held .above; below = omega (arith, h .held .below, table-length) }
+
+        no-pieces : tables.pieces none ≡ []
+        no-pieces = unfold tables.pieces in rw (e .empty)

@@ -1,0 +1,91 @@
+-- Document 01, 'Discharge and pieces': a discharge of a short, dealt out over the machine's table of positions.
+use Prim.Native.Nat.{ℕ, _+_, _-_, _≤_, min}
+use mathlib.Core.Path.{_≡_}
+use mathlib.Core.List.{List}
+use mathlib.Core.Bool.{true}
+use lib.Dec.{eqb}
+use Rattle.laws.specs.Lists.{All, only}
+use Rattle.plain.specs.declared.Position.{Position}
+use Rattle.plain.specs.declared.Piece.{Piece}
+use Rattle.plain.specs.declared.Manner.{Manner}
+use Rattle.plain.specs.declared.Manner.the-variants.{Delivered, BoughtIn, Cash}
+use Rattle.plain.specs.Book.{noPosition, nth}
+use Rattle.plain.specs.Dealing.{mannerNumber, due, longOf, takers, dealTo, lowering}
+use Rattle.plain.proofs.Accepted.{Within}
+use Rattle.plain.proofs.Invariants.{Rising, Whole, dueLong, openOf}
+use Rattle.tables.specs.declared.Positions.{Positions}
+use Rattle.tables.specs.declared.Pieces.{Pieces}
+use Rattle.tables.specs.Tables as tables
+use Rattle.positions.specs.declared.Dealt.{Dealt}
+
+-- position n of the table
+abbrev pub positionOf : Positions → ℕ → Position
+positionOf table n = nth noPosition (tables.positions table) n
+
+-- "each taking the smaller of its open quantity and what is left": what a position takes of it as a long of the security
+unfoldable pub shareOf : ℕ → ℕ → Position → ℕ
+shareOf security left p = only (longOf security p) (min (p .unsettled) left)
+
+-- the units, where they are discharged in the manner that the figure is kept for
+abbrev pub inManner : Manner → Manner → ℕ → ℕ
+inManner manner figure units = only (eqb (mannerNumber manner) (mannerNumber figure)) units
+
+-- a position of which units are discharged in a manner: its open quantity falls, and the figure of that manner rises
+unfoldable pub loweredBy : Manner → ℕ → Position → Position
+loweredBy manner units p =
+    record {
+      member = p .member;
+      security = p .security;
+      short = p .short;
+      settlement = p .settlement;
+      reference = p .reference;
+      netted = p .netted;
+      delivered = p .delivered + inManner manner Delivered units;
+      bought = p .bought + inManner manner BoughtIn units;
+      cash = p .cash + inManner manner Cash units;
+      unsettled = p .unsettled - units;
+    }
+
+-- a piece that is dealt: pieces are priced later
+abbrev pub pieceOf : Manner → ℕ → ℕ → ℕ → Piece
+pieceOf manner short long units = record { short = short; long = long; quantity = units; manner = manner; cents = 0 }
+
+-- figures that add up to a netted quantity of at most 512 trades of at most 1,000,000 units
+pub record Sized (p : Position) : Type 0 where
+  pub whole : Whole p
+  pub bounded : p .netted ≤ 512000000
+
+-- units that may be discharged of a position
+pub record Lowerable (p : Position) (units : ℕ) : Type 0 where
+  pub enough : units ≤ p .unsettled
+  pub sized : Sized p
+
+-- "A discharge of q units of a due short", and the longs suffice
+pub record Dealing (table : Positions) (day short quantity : ℕ) : Type 0 where
+  pub fits : tables.PositionsFit table
+  pub rising : Rising (tables.positions table)
+  pub held : Within 1 (table .count) short
+  pub is-short : positionOf table short .short ≡ true
+  pub is-due : due day (positionOf table short) ≡ true
+  pub enough : quantity ≤ positionOf table short .unsettled
+  pub suffice : quantity ≤ openOf (dueLong day (positionOf table short .security)) (tables.positions table)
+  pub whole : All Whole (tables.positions table)
+  pub bounded : All (λ p. p .netted ≤ 512000000) (tables.positions table)
+
+-- the pieces: "dealt out to due longs of that security"
+abbrev pub dealtOut : Positions → ℕ → ℕ → ℕ → Manner → List Piece
+dealtOut table day short quantity manner =
+    dealTo manner short (takers day (positionOf table short .security) (tables.positions table)) quantity
+
+-- what dealing gives: the pieces, and the table whose "open quantities .. fall by each piece on both sides"
+pub record DealtOut (table : Positions) (day short quantity : ℕ) (manner : Manner) (r : Dealt) : Type 0 where
+  pub pieces : tables.pieces (r .pieces) ≡ dealtOut table day short quantity manner
+  pub positions : tables.positions (r .positions) ≡ lowering (dealtOut table day short quantity manner) (tables.positions table)
+  pub pieces-fit : tables.PiecesFit (r .pieces)
+  pub positions-fit : tables.PositionsFit (r .positions)
+  pub count : r .positions .count ≡ table .count
+
+-- an empty sheet of pieces
+pub record NoPieces (t : Pieces) : Type 0 where
+  pub fits : tables.PiecesFit t
+  pub empty : t .count ≡ 0
