@@ -1,0 +1,49 @@
+-- The fines of a close, by the numbers that they are worked out from.
+use Prim.Native.Nat.{ℕ, _*_}
+use mathlib.Core.Path.{_≡_}
+use mathlib.Core.List.{[], _∷_}
+use mathlib.Core.Bool.{Bool, true, false, not, _&&_}
+use lib.Dec.{ltb, eqb}
+use Rattle.rules.specs.Charges.{awardFine, lateFine}
+use Rattle.plain.specs.declared.Position.{Position}
+use Rattle.plain.specs.declared.Award.{Award}
+use Rattle.plain.specs.Book.{Book, positionOf, classOf, latestOf}
+use Rattle.plain.specs.Dealing.{due}
+use Rattle.plain.specs.Charging.{awardFines, lateFines}
+
+-- an award on a position whose security has this latest price; `fined` is what the test said
+module _
+    (b : Book)
+    (a : Award)
+    (p : Position)
+    (latest : ℕ)
+    (fined : Bool)
+    (at : positionOf b (a .position) ≡ p)
+    (known : latest ≡ latestOf b (p .security))
+    (test : fined ≡ (not (a .confirmed) && ltb 0 latest))
+  where
+    pub award-free : fined ≡ false → awardFines b a ≡ []
+    unfolding awardFines
+    award-free e = rw (at, ← known, ← test, e)
+
+    pub award-fined : (class value fine : ℕ) → fined ≡ true → class ≡ classOf b (p .security) → value ≡ a .quantity * latest → fine ≡ awardFine class value → awardFines b a ≡ record { payer = a .offerer; payee = 0; cents = fine } ∷ []
+    unfolding awardFines
+    award-fined class value fine e c v f = rw (at, ← known, ← c, ← test, e, f, v)
+
+-- a position of a security with this class and latest price
+module _
+    (b : Book)
+    (p : Position)
+    (class latest : ℕ)
+    (fined : Bool)
+    (of : class ≡ classOf b (p .security))
+    (known : latest ≡ latestOf b (p .security))
+    (test : fined ≡ (p .short && due (b .day) p && eqb class 1 && ltb 0 latest))
+  where
+    pub late-free : fined ≡ false → lateFines b p ≡ []
+    unfolding lateFines
+    late-free e = rw (← of, ← known, ← test, e)
+
+    pub late-fined : (value fine : ℕ) → fined ≡ true → value ≡ p .unsettled * latest → fine ≡ lateFine value → lateFines b p ≡ record { payer = p .member; payee = 0; cents = fine } ∷ []
+    unfolding lateFines
+    late-fined value fine e v f = rw (← of, ← known, ← test, e, f, v)

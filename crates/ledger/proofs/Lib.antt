@@ -1,0 +1,5 @@
+pub mod Elements
+pub mod Posting
+pub mod Fines
+pub mod Settling
+pub mod Reached

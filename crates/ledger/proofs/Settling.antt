@@ -1,0 +1,95 @@
+-- The pieces of a cash settlement: a table of them that is priced in place, their payments and the fee.
+use Prim.Native.Nat.{ℕ, _+_, _-_, _*_, _≤_, _<_}
+use native.Mathlib.Omega.{arith}
+use native.Mathlib.Nat.{mul-le-mul}
+use native.Mathlib.Numerals.{add-one}
+use mathlib.Core.Path.{_≡_, refl, ap, sym, _∙_, subst}
+use mathlib.Core.List.{List, [], _∷_, _++_, map, append-assoc, append-nil}
+use mathlib.Core.Bool.{Bool, true, false, cond}
+use lib.ListN.{length, getD, take, drop, set, length-set}
+use lib.Seq.{take-suc-set}
+use lib.Dec.{eqb}
+use Rattle.laws.specs.Lists.{each}
+use Rattle.rules.specs.Prices.{raised, cashPrice}
+use Rattle.rules.specs.Charges.{cashFee}
+use Rattle.register.specs.Register.{emptyRegister}
+use Rattle.plain.specs.declared.Piece.{Piece}
+use Rattle.plain.specs.Book.{noPosition}
+use Rattle.plain.specs.Charging.{Charge, payment}
+use Rattle.plain.proofs.Accepted.{Within}
+use Rattle.tables.specs.declared.Positions.{Positions}
+use Rattle.tables.specs.declared.Pieces.{Pieces}
+use Rattle.tables.specs.Tables.{positions, pieces}
+use Rattle.ledger.specs.Parts.{bookOf, pricedBy, paymentsOf, cashChargesBy}
+use Rattle.ledger.specs.Tabled.{Paired}
+use Rattle.ledger.proofs.Elements.{ahead-at, ahead-end, position-at}
+
+-- the first n elements of a table, of which those before place i have been changed by f
+module _ {A : Type 0} (f : A → A) (n : ℕ) (items : List A) where
+  pub record Changing (i : ℕ) (l : List A) : Type 0 where
+    pub same : take i l ++ map f (drop i (take n items)) ≡ map f (take n items)
+    pub size : length l ≡ length items
+
+  pub changing-start : Changing 0 items
+  changing-start = record { same = refl; size = refl }
+
+  module _ (long : n ≤ length items) where
+    pub changing-one : (i : ℕ) (l : List A) (d y : A) → i < n → y ≡ f (getD items i d) → Changing i l → Changing (i + 1) (set l i y)
+    changing-one i l d y less e h =
+        let within : i < length l = omega (arith, h .size) in
+        let split : take i l ++ y ∷ map f (drop (i + 1) (take n items)) ≡ map f (take n items) = rw e (rw (ahead-at n items d i long less) at (h .same)) in
+        record { same = subst (λ (k : ℕ). take k (set l i y) ++ map f (drop (i + 1) (take n items)) ≡ map f (take n items)) (sym (add-one i)) (rw (take-suc-set l i y within, append-assoc) split); size = length-set l i y ∙ h .size }
+
+    pub changing-end : (i : ℕ) (l : List A) → n ≤ i → i ≤ n → Changing i l → take n l ≡ map f (take n items)
+    changing-end i l done most h =
+        let all : i ≡ n = omega arith in
+        ap (λ (k : ℕ). take k l) (sym all) ∙ sym (append-nil (take i l)) ∙ (rw (ahead-end n items i long done) at (h .same))
+
+-- what a unit costs in cash fits, and so does a piece
+cond-most : (t : Bool) (x y m : ℕ) → x ≤ m → y ≤ m → cond t x y ≤ m
+cond-most true x y m h k = h
+cond-most false x y m h k = k
+
+raised-most : (class latest : ℕ) → latest ≤ 10000000 → raised class latest ≤ 20000000
+unfolding raised
+raised-most class latest h =
+    cond-most (eqb class 1) _ _ _ (omega arith) (cond-most (eqb class 2) _ _ _ (omega arith) (cond-most (eqb class 3) _ _ _ (omega arith) (omega arith)))
+
+pub piece-fits : (quantity class short long latest price : ℕ) → quantity < 4294967296 → short ≤ 10000000 → long ≤ 10000000 → latest ≤ 10000000 → price ≡ cashPrice class short long latest → quantity * price < 18446744073709551616
+unfolding cashPrice
+piece-fits quantity class short long latest price q s l h e =
+    let small : price ≤ 20000000 = omega (arith, raised-most class latest h) in
+    let few : quantity ≤ 4294967296 = omega arith in
+    let product : quantity * price ≤ 4294967296 * 20000000 = mul-le-mul few small in
+    omega arith
+
+pub priced-at : (p : Positions) (class latest price cents : ℕ) (x : Piece) → Paired (p .count) x
+    → price ≡ cashPrice class (getD (p .items) (x .short - 1) noPosition .reference) (getD (p .items) (x .long - 1) noPosition .reference) latest
+    → cents ≡ x .quantity * price
+    → record { short = x .short; long = x .long; quantity = x .quantity; manner = x .manner; cents = cents } ≡ pricedBy class latest (positions p) x
+unfolding pricedBy
+priced-at p class latest price cents x h e k = rw (position-at p (x .short) (h .short), position-at p (x .long) (h .long), k, e)
+
+-- Payments
+
+abbrev pub paid : Positions → Piece → List Charge
+paid p x = payment (bookOf emptyRegister 0 [] (positions p)) x ∷ []
+
+map-each : {A B : Type 0} (g : A → B) (xs : List A) → map g xs ≡ each (λ x. g x ∷ []) xs
+map-each g [] = refl
+map-each g (x ∷ xs) = rw (map-each g xs)
+
+pub payments-each : (xs : Pieces) (p : Positions) → paymentsOf xs p ≡ each (paid p) (take (xs .count) (xs .items))
+unfolding paymentsOf pieces
+payments-each xs p = map-each (payment (bookOf emptyRegister 0 [] (positions p))) (take (xs .count) (xs .items))
+
+pub paid-at : (p : Positions) (x : Piece) → Paired (p .count) x
+    → paid p x ≡ record { payer = getD (p .items) (x .short - 1) noPosition .member; payee = getD (p .items) (x .long - 1) noPosition .member; cents = x .cents } ∷ []
+unfolding payment
+paid-at p x h = rw (position-at p (x .short) (h .short), position-at p (x .long) (h .long))
+
+-- the fee comes after the payments
+pub cash-fee-last : (xs : Pieces) (p : Positions) (n latest value fee : ℕ) → Within 1 (p .count) n → value ≡ getD (p .items) (n - 1) noPosition .unsettled * latest → fee ≡ cashFee value
+    → cashChargesBy xs p n latest ≡ paymentsOf xs p ++ record { payer = getD (p .items) (n - 1) noPosition .member; payee = 0; cents = fee } ∷ []
+unfolding cashChargesBy
+cash-fee-last xs p n latest value fee h v f = rw (position-at p n h, f, v)

@@ -1,0 +1,3 @@
+pub mod Posts
+pub mod Parts
+pub mod Tabled

@@ -1,0 +1,90 @@
+-- What posting asks of the tables that it reads, each of which every plain book has.
+use Prim.Native.Nat.{ℕ, _≤_, _<_}
+use mathlib.Core.Path.{_≡_}
+use mathlib.Core.List.{[], _∷_, map}
+use Rattle.laws.specs.declared.BusinessDay.{BusinessDay}
+use Rattle.laws.specs.Lists.{All}
+use Rattle.register.specs.declared.Register.{Register}
+use Rattle.plain.specs.declared.Position.{Position}
+use Rattle.plain.specs.declared.Piece.{Piece}
+use Rattle.plain.specs.declared.Award.{Award}
+use Rattle.plain.specs.declared.Ledger.{Ledger}
+use Rattle.plain.specs.Charging.{Charge}
+use Rattle.plain.proofs.Accepted.{Within}
+use Rattle.plain.proofs.Accounts.{Booked}
+use Rattle.tables.specs.declared.Positions.{Positions}
+use Rattle.tables.specs.declared.Prices.{Prices}
+use Rattle.tables.specs.declared.Awards.{Awards}
+use Rattle.tables.specs.declared.Pieces.{Pieces}
+use Rattle.tables.specs.Tables.{positions, pieces, awards, PositionsFit, PiecesFit, AwardsFit}
+use Rattle.ledger.specs.Posts.{Room}
+use Rattle.ledger.specs.Parts.{awardFinesOf, lateFinesOf, closeChargesOf, pricedBy, paymentsOf, cashChargesBy}
+
+-- what posting one charge asks
+pub record Chargeable (l : Ledger) (c : Charge) : Type 0 where
+  pub booked : Booked c
+  pub room : Room l (c ∷ [])
+
+-- a position's account is there, and its security has a place in the register and among the prices
+pub record Accounted (p : Position) : Type 0 where
+  pub member : p .member < 64
+  pub security : Within 1 32 (p .security)
+
+-- an award's offerer has an account, and the award is on one of so many positions
+pub record Awarded (held : ℕ) (a : Award) : Type 0 where
+  pub offerer : a .offerer < 64
+  pub position : Within 1 held (a .position)
+
+-- what posting the fines of awards asks, and posting the late fines
+pub record AwardsFinable (l : Ledger) (a : Awards) (p : Positions) (prices : Prices) (register : Register) : Type 0 where
+  pub room : Room l (awardFinesOf a p prices register)
+  pub positions-fit : PositionsFit p
+  pub accounted : All Accounted (positions p)
+  pub awards-fit : AwardsFit a
+  pub awarded : All (Awarded (p .count)) (awards a)
+
+pub record LateFinable (l : Ledger) (p : Positions) (prices : Prices) (register : Register) (day : BusinessDay) : Type 0 where
+  pub room : Room l (lateFinesOf p prices register day)
+  pub positions-fit : PositionsFit p
+  pub accounted : All Accounted (positions p)
+
+pub record CloseFinable (l : Ledger) (a : Awards) (p : Positions) (prices : Prices) (register : Register) (day : BusinessDay) : Type 0 where
+  pub room : Room l (closeChargesOf a p prices register day)
+  pub positions-fit : PositionsFit p
+  pub accounted : All Accounted (positions p)
+  pub awards-fit : AwardsFit a
+  pub awarded : All (Awarded (p .count)) (awards a)
+
+-- a piece's two sides are among so many positions
+pub record Paired (held : ℕ) (x : Piece) : Type 0 where
+  pub short : Within 1 held (x .short)
+  pub long : Within 1 held (x .long)
+
+-- what pricing pieces asks and gives; places past the count are free
+pub record Priceable (xs : Pieces) (p : Positions) (latest : ℕ) : Type 0 where
+  pub price : latest ≤ 10000000
+  pub positions-fit : PositionsFit p
+  pub references : All (λ q. q .reference ≤ 10000000) (positions p)
+  pub pieces-fit : PiecesFit xs
+  pub paired : All (Paired (p .count)) (pieces xs)
+
+pub record Priced (xs : Pieces) (p : Positions) (class latest : ℕ) (r : Pieces) : Type 0 where
+  pub many : r .count ≡ xs .count
+  pub priced : pieces r ≡ map (pricedBy class latest (positions p)) (pieces xs)
+  pub fit : PiecesFit r
+
+-- what posting the payments of pieces asks, and with the fee of short n
+pub record Payable (l : Ledger) (xs : Pieces) (p : Positions) : Type 0 where
+  pub room : Room l (paymentsOf xs p)
+  pub positions-fit : PositionsFit p
+  pub accounted : All Accounted (positions p)
+  pub pieces-fit : PiecesFit xs
+  pub paired : All (Paired (p .count)) (pieces xs)
+
+pub record CashPayable (l : Ledger) (xs : Pieces) (p : Positions) (n latest : ℕ) : Type 0 where
+  pub room : Room l (cashChargesBy xs p n latest)
+  pub positions-fit : PositionsFit p
+  pub accounted : All Accounted (positions p)
+  pub pieces-fit : PiecesFit xs
+  pub paired : All (Paired (p .count)) (pieces xs)
+  pub short : Within 1 (p .count) n
