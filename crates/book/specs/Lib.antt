@@ -1,0 +1,4 @@
+pub mod View
+pub mod Entering
+pub mod Opening
+pub mod Reading

@@ -1,0 +1,140 @@
+-- The claim about histories: after every list of the calls from any opened book, refused ones included, with sheets of any length.
+use Prim.Native.Nat.{ℕ, zero, suc, _+_, _≤_, _<_}
+use mathlib.Core.Path.{_≡_, refl, ap, sym, _∙_, subst}
+use mathlib.Core.Logic.{_≢_}
+use mathlib.Core.List.{List, [], _∷_, _++_, map}
+use lib.ListN.{length, getD}
+use lib.IntN.{ℤ, pos, subℕ}
+use Rattle.laws.specs.Lists.{All, each, range, sum}
+use Rattle.laws.specs.Integers.{sumℤ}
+use Rattle.register.specs.declared.Register.{Register}
+use Rattle.plain.specs.declared.Piece.{Piece}
+use Rattle.plain.specs.declared.Manner.the-variants.{Delivered, BoughtIn, Cash}
+use Rattle.plain.specs.Book as plain
+use Rattle.plain.specs.Book.{new, noPosition, positionOf}
+use Rattle.plain.specs.Netting.{keys}
+use Rattle.plain.specs.Dealing.{takenBy}
+use Rattle.plain.specs.Charging.{creditOf, debitOf}
+use Rattle.plain.specs.Calls.{Call, shortOf}
+use Rattle.plain.specs.Refusals.{refusal}
+use Rattle.plain.specs.Histories.{eventOf, next, pieces, quantity, run, handed, allCharges, acceptedEvents, formed, balance}
+use Rattle.plain.proofs.Accepted.{next-keeps}
+use Rattle.plain.proofs.Invariants.{DueLong}
+use Rattle.plain.proofs.Sound.{Sound, done-sound, new-sound}
+use Rattle.plain.proofs.Discharges.{Discharge, discharge}
+use Rattle.plain.proofs.Bound.{Small}
+use Rattle.plain.proofs.Claim as told
+use Rattle.book.specs.declared.Book.{Book}
+use Rattle.book.specs.View.{view, numberOf, quantityOf, Returned}
+use Rattle.history.specs.Runs.{Return, Runs, stop, step, last, sheets, refusals, quantities, dealings}
+
+-- The machine's calls follow the plain book
+
+pub agrees : {b : Book} {cs : List Call} {rs : List Return} → Runs b cs rs → view (last b rs) ≡ run (view b) cs
+unfolding last run
+agrees stop = refl
+agrees (step {cs = cs} r rs) = agrees rs ∙ ap (λ (p : plain.Book). run p cs) (r .book)
+
+same-numbers : {b : Book} {cs : List Call} {rs : List Return} → Runs b cs rs → map (λ r. numberOf (r .outcome)) rs ≡ refusals (view b) cs
+unfolding refusals
+same-numbers stop = refl
+same-numbers (step {b = b} {c = c} {cs = cs} r rs) =
+    rw (r .number) (ap (λ (l : List ℕ). refusal (view b) c ∷ l) (same-numbers rs ∙ ap (λ (p : plain.Book). refusals p cs) (r .book)))
+
+same-quantities : {b : Book} {cs : List Call} {rs : List Return} → Runs b cs rs → map (λ r. quantityOf (r .outcome)) rs ≡ quantities (view b) cs
+unfolding quantities
+same-quantities stop = refl
+same-quantities (step {b = b} {c = c} {cs = cs} r rs) =
+    rw (r .quantity) (ap (λ (l : List ℕ). quantity (view b) c ∷ l) (same-quantities rs ∙ ap (λ (p : plain.Book). quantities p cs) (r .book)))
+
+same-dealings : {b : Book} {cs : List Call} {rs : List Return} → Runs b cs rs → map (λ r. r .pieces) rs ≡ dealings (view b) cs
+unfolding dealings
+same-dealings stop = refl
+same-dealings (step {b = b} {c = c} {cs = cs} r rs) =
+    rw (r .pieces) (ap (λ (l : List (List Piece)). pieces (view b) c ∷ l) (same-dealings rs ∙ ap (λ (p : plain.Book). dealings p cs) (r .book)))
+
+same-sheets : {b : Book} {cs : List Call} {rs : List Return} → Runs b cs rs → sheets rs ≡ handed (view b) cs
+unfolding sheets handed
+same-sheets stop = refl
+same-sheets (step {b = b} {c = c} {cs = cs} r rs) =
+    rw (r .pieces) (ap (λ (l : List Piece). pieces (view b) c ++ l) (same-sheets rs ∙ ap (λ (p : plain.Book). handed p cs) (r .book)))
+
+-- Each call of the list, on the book that it met
+
+-- an accepted discharge's pieces add up to the quantity that it reports, and run from its short to due longs of that short's security
+pub record Dealt (b : Book) (c : Call) (r : Return) : Type 0 where
+  pub total : sum (λ x. x .quantity) (r .pieces) ≡ quantityOf (r .outcome)
+  pub shorts : All (λ x. x .short ≡ shortOf (view b) (eventOf c)) (r .pieces)
+  pub longs : All (λ x. DueLong (view b) (positionOf (view b) (shortOf (view b) (eventOf c)) .security) (x .long)) (r .pieces)
+
+-- what is said of each call of a list
+pub data Each (P : Book → Call → Return → Type 0) : Book → List Call → List Return → Type 0 where
+  none : {b : Book} → Each P b [] []
+  one : {b : Book} {c : Call} {r : Return} {cs : List Call} {rs : List Return} → P b c r → Each P (r .book) cs rs → Each P b (c ∷ cs) (r ∷ rs)
+
+abbrev pub DealtOut : Book → Call → Return → Type 0
+DealtOut b c r = numberOf (r .outcome) ≡ 0 → shortOf (view b) (eventOf c) ≢ 0 → Dealt b c r
+
+abbrev pub Kept : Book → Call → Return → Type 0
+Kept b c r = numberOf (r .outcome) ≢ 0 → (r .book ≡ b) × (r .pieces ≡ []) × (quantityOf (r .outcome) ≡ 0)
+
+dealt-out : (b : Book) (c : Call) (r : Return) → Sound (view b) → Returned b c (r .book) (r .outcome) (r .pieces) → DealtOut b c r
+dealt-out b c r h k e s =
+    let d = discharge (view b) c h (sym (k .number) ∙ e) s in
+    record { total = rw (k .pieces, k .quantity) (d .total); shorts = rw (k .pieces) (d .shorts); longs = rw (k .pieces) (d .longs) }
+
+kept : (b : Book) (c : Call) (r : Return) → Returned b c (r .book) (r .outcome) (r .pieces) → Kept b c r
+kept b c r k e =
+    let n : refusal (view b) c ≢ 0 = λ z. e (k .number ∙ z) in
+    let f = Rattle.plain.proofs.Discharges.refused (view b) c n in
+    (k .kept n, k .pieces ∙ f .pieces', k .quantity ∙ f .quantity')
+
+all-dealt : {b : Book} {cs : List Call} {rs : List Return} → Sound (view b) → Runs b cs rs → Each DealtOut b cs rs
+all-dealt h stop = none
+all-dealt h (step {b = b} {c = c} {r = r} k rs) =
+    one (dealt-out b c r h k) (all-dealt (subst Sound (sym (k .book)) (next-keeps Sound done-sound (view b) c h)) rs)
+
+all-kept : {b : Book} {cs : List Call} {rs : List Return} → Runs b cs rs → Each Kept b cs rs
+all-kept stop = none
+all-kept (step {b = b} {c = c} {r = r} k rs) = one (kept b c r k) (all-kept rs)
+
+-- The claim
+
+pub record History (register : Register) (b : Book) (cs : List Call) (rs : List Return) : Type 0 where
+  -- 1. each call's refusal number and quantity are the plain book's, and the book is the plain book's
+  pub numbers : map (λ r. numberOf (r .outcome)) rs ≡ refusals (new register) cs
+  pub reported : map (λ r. quantityOf (r .outcome)) rs ≡ quantities (new register) cs
+  pub book : view (last b rs) ≡ run (new register) cs
+  -- 2. each position's netted quantity, worked out from the accepted trades and closes of the list alone, is delivered, bought in, settled in cash and open
+  pub netted : (i : ℕ) → i < length (view (last b rs) .positions)
+      → getD (formed (keys (register .count)) 1 [] (acceptedEvents (new register) cs)) i noPosition .netted
+      ≡ takenBy Delivered (suc i) (sheets rs) + takenBy BoughtIn (suc i) (sheets rs) + takenBy Cash (suc i) (sheets rs)
+      + getD (view (last b rs) .positions) i noPosition .unsettled
+  -- 3. each call's pieces are the plain book's, in the same order; an accepted discharge's add up to the quantity that it reports
+  pub dealt : map (λ r. r .pieces) rs ≡ dealings (new register) cs
+  pub discharges : Each DealtOut b cs rs
+  -- 4. every account is the charging rules summed over the list
+  pub accounts : (k : ℕ) → k < 64 → balance (view (last b rs)) k ≡ subℕ (creditOf k (allCharges (new register) cs)) (debitOf k (allCharges (new register) cs))
+  -- 5. all 64 accounts add up to zero, and none leaves plus or minus 10^17 cents
+  pub zero-sum : sumℤ (balance (view (last b rs))) (range 0 64) ≡ pos 0
+  pub small : (k : ℕ) → Small (view (last b rs)) k
+  -- a refused call returns the very same book, no pieces and quantity 0
+  pub refused : Each Kept b cs rs
+
+pub history : (register : Register) {b : Book} {cs : List Call} {rs : List Return} → view b ≡ new register → Runs b cs rs → History register b cs rs
+history register {b} {cs} {rs} e runs =
+    let same : view (last b rs) ≡ run (new register) cs = agrees runs ∙ ap (λ (p : plain.Book). run p cs) e in
+    let given : sheets rs ≡ handed (new register) cs = same-sheets runs ∙ ap (λ (p : plain.Book). handed p cs) e in
+    let claim = told.claim register cs in
+    record {
+      numbers = same-numbers runs ∙ ap (λ (p : plain.Book). refusals p cs) e;
+      reported = same-quantities runs ∙ ap (λ (p : plain.Book). quantities p cs) e;
+      book = same;
+      netted = rw (same, given) (λ i h. sym (claim .netted i) ∙ claim .tallied i h);
+      dealt = same-dealings runs ∙ ap (λ (p : plain.Book). dealings p cs) e;
+      discharges = all-dealt (subst Sound (sym e) (new-sound register)) runs;
+      accounts = rw same (claim .accounts');
+      zero-sum = rw same (claim .zero-sum);
+      small = rw same (claim .small);
+      refused = all-kept runs;
+    }

@@ -1,0 +1,1 @@
+// The claim about every list of calls on a book. It has no function.
