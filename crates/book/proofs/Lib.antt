@@ -4,3 +4,7 @@ pub mod Chosen
 pub mod Entered
 pub mod Fresh
 pub mod Found
+pub mod Auctions
+pub mod ClosingDay
+pub mod Discharging
+pub mod Stepping

@@ -2,3 +2,7 @@ pub mod View
 pub mod Entering
 pub mod Opening
 pub mod Reading
+pub mod Auctions
+pub mod Closing
+pub mod Discharging
+pub mod Stepping

@@ -1,26 +1,41 @@
 // The fails book: a struct by value whose fields only this crate can change, and the calls on it.
-ghost use Prim.Native.Nat.{_<_, _≤_};
+ghost use Prim.Native.Nat.{_<_, _≤_, _-_};
 ghost use mathlib.Core.Path.{_≡_};
 ghost use mathlib.Core.List.{[]};
 ghost use lib.ListN.{length, replicate};
 ghost use Rattle.register.specs.Accepted.{Registered};
-ghost use Rattle.events.specs.declared.Event.the-variants as event;
-ghost use Rattle.plain.specs.Book.{new};
+ghost use Rattle.plain.specs.Book.{new, noPosition, nth, noAward, positionOf, awardOf, classOf, latestOf};
 ghost use Rattle.plain.specs.Calls.{call, done};
-ghost use Rattle.plain.specs.Refusals.{isMember, isQuantity, isPrice};
+ghost use Rattle.plain.specs.Refusals.{isMember, isQuantity, isPrice, refusal};
 ghost use Rattle.book.specs.View.{view, Fits, Valid, Returned};
 ghost use Rattle.book.specs.Entering.{within, tradeRefusal, priceRefusal};
 ghost use Rattle.book.specs.Opening.{OpenedOn};
 ghost use Rattle.book.specs.Reading.{PositionRead, AwardRead, BalanceRead};
+ghost use lib.Dec.{eqb};
+ghost use Rattle.rules.specs.Windows.{stepOn, stepKind};
+ghost use Rattle.book.specs.Auctions.{Done, ceilingOn, runsOn, awardRefusal, attemptRefusal, offerRefusal, auctionRefusal};
+ghost use Rattle.book.specs.Closing.{closeRefusal};
+ghost use Rattle.book.specs.Stepping.{WithoutPieces, Stepped};
+ghost use Rattle.events.specs.declared.Event.the-variants as event;
+ghost use Rattle.tables.specs.Tables as tables;
+ghost use Rattle.book.specs.Discharging as discharging;
+use events::Attempt;
+use events::Cash;
+use events::Confirm;
+use events::Delivery;
+use events::Event;
 use events::Offer;
 use events::Price;
 use events::Trade;
 use laws::BusinessDay;
 use plain::Award;
 use plain::Ledger;
+use plain::Manner;
 use plain::Outcome;
+use plain::Piece;
 use plain::Position;
 use register::Register;
+use rules::Step;
 use tables::Auction;
 use tables::Awards;
 use tables::Marks;
@@ -79,6 +94,8 @@ pub enum BalanceAnswer {
 }
 
 // The numbers of document 01, 'Why a call is turned down'.
+const SMALL_SHEET: u8 = 8;
+
 const NO_MEMBER: u8 = 9;
 
 const NOT_REGISTERED: u8 = 10;
@@ -92,6 +109,28 @@ const WRONG_PRICE: u8 = 13;
 const SELLER_IS_BUYER: u8 = 14;
 
 const TRADES_FULL: u8 = 15;
+
+const LONG: u8 = 16;
+
+const OUTSIDE_WINDOW: u8 = 17;
+
+const AUCTION: u8 = 18;
+
+const NO_PRICE: u8 = 19;
+
+const ATTEMPTED: u8 = 20;
+
+const FAILING: u8 = 21;
+
+const ABOVE_CEILING: u8 = 22;
+
+const OFFERS_FULL: u8 = 23;
+
+const NOT_ENOUGH: u8 = 24;
+
+const CONFIRMED: u8 = 25;
+
+const NO_NEXT_DAY: u8 = 26;
 
 fn is_within(low: usize, high: usize, n: usize) -> bool
     ensures { λ r. ⌜ r ≡ within low high n ⌝ }
@@ -404,4 +443,610 @@ pub fn balance(book: Book, account: u8) -> BalanceAnswer
         return BalanceAnswer::Debit(debit - credit);
     }
     BalanceAnswer::Credit(credit - debit)
+}
+
+// Where no auction runs its position is 0, which no position is.
+fn runs_on(auction: u16, position: u16) -> bool
+    ensures { λ r. ⌜ r ≡ runsOn auction position ⌝ }
+{
+    if auction == 0 {
+        false
+    } else {
+        auction == position
+    }
+}
+
+fn position_at(table: Positions, number: u16) -> Position
+    requires { ⌜ (tables.PositionsFit table) × (1 ≤ number) × (number ≤ table .count) ⌝ }
+    ensures { λ r. ⌜ r ≡ nth noPosition (tables.positions table) number ⌝ }
+{
+    let n = number as usize;
+    let found = table.items[n - 1];
+    found
+}
+
+fn award_refusal(held: usize, auction: u16, position: u16) -> u8
+    ensures { λ r. ⌜ r ≡ awardRefusal held auction position ⌝ }
+{
+    if !is_within(1, held, position as usize) {
+        return NOT_THERE;
+    }
+    if !runs_on(auction, position) {
+        return AUCTION;
+    }
+    0
+}
+
+// The auction ends in awards. Its offers' cells stay as they are, past the count.
+fn end_auction(book: Book, a: events::Award) -> Answered
+    requires { ⌜ (Valid book) × (refusal (view book) (call (event.Award a) 0) ≡ 0) ⌝ }
+    ensures { λ r. ⌜ Done book (event.Award a) r ⌝ }
+{
+    let short = position_at(book.positions, a.position);
+    let awarding = auction::awarded_to(book.auction, short.unsettled, book.awards);
+    let mut ended = book.auction;
+    ended.position = 0;
+    ended.ceiling = 0;
+    ended.count = 0;
+    let awards = awarding.awards;
+    let mut after = book;
+    after.auction = ended;
+    after.awards = awards;
+    let outcome = Outcome::Done(awarding.total);
+    Answered {
+        book: after,
+        outcome,
+    }
+}
+
+pub fn award(book: Book, a: events::Award) -> Answered
+    requires { ⌜ Valid book ⌝ }
+    ensures { λ r. ⌜ Returned book (call (event.Award a) 0) (r .book) (r .outcome) [] ⌝ }
+{
+    let number = award_refusal(book.positions.count, book.auction.position, a.position);
+    if number != 0 {
+        let outcome = Outcome::Refused(number);
+        return Answered { book, outcome };
+    }
+    end_auction(book, a)
+}
+
+fn class_of(register: Register, security: u16) -> u8
+    requires { ⌜ (Registered register) × (1 ≤ security) × (security ≤ 32) ⌝ }
+    ensures { λ r. ⌜ r ≡ nth 0 (register .classes) security ⌝ }
+{
+    let s = security as usize;
+    register.classes[s - 1]
+}
+
+fn latest_of(prices: Prices, security: u16) -> u32
+    requires { ⌜ (length (prices .latest) ≡ 32) × (1 ≤ security) × (security ≤ 32) ⌝ }
+    ensures { λ r. ⌜ r ≡ nth 0 (prices .latest) security ⌝ }
+{
+    let s = security as usize;
+    prices.latest[s - 1]
+}
+
+// The step that a day allows on a position. One that is not due allows what r 0 does: none.
+fn step_today(class: u8, day: BusinessDay, p: Position) -> Step
+    ensures { λ r. ⌜ r ≡ stepOn class (day .0 - p .settlement .0) ⌝ }
+{
+    if day.0 < p.settlement.0 {
+        return rules::step_on(class, 0);
+    }
+    rules::step_on(class, day.0 - p.settlement.0)
+}
+
+fn is_attempt(step: Step) -> bool
+    ensures { λ r. ⌜ r ≡ eqb (stepKind step) 4 ⌝ }
+{
+    match step {
+        Step::Nothing => false,
+        Step::Attempt => true,
+        Step::Cash => false,
+    }
+}
+
+fn attempt_refusal(
+    p: Position,
+    today: Step,
+    auction: u16,
+    latest: u32,
+    attempts: usize,
+    marked: bool,
+) -> u8
+    ensures { λ r. ⌜ r ≡ attemptRefusal p today auction latest attempts marked ⌝ }
+{
+    if !p.short {
+        return LONG;
+    }
+    if !is_attempt(today) {
+        return OUTSIDE_WINDOW;
+    }
+    if 0 < auction {
+        return AUCTION;
+    }
+    if latest == 0 {
+        return NO_PRICE;
+    }
+    if 16 <= attempts {
+        return ATTEMPTED;
+    }
+    if marked {
+        return ATTEMPTED;
+    }
+    if p.unsettled == 0 {
+        return NOT_ENOUGH;
+    }
+    0
+}
+
+// The position is marked, and its auction opens without an offer.
+fn open_auction(book: Book, a: Attempt, ceiling: u64) -> Answered
+    requires { ⌜ (Fits book) × (book .marks .count < 16) × (ceiling ≡ ceilingOn (view book) (a .position)) ⌝ }
+    ensures { λ r. ⌜ Done book (event.Attempt a) r ⌝ }
+{
+    let mut marks = book.marks;
+    let n = marks.count;
+    marks.items[n] = a.position;
+    marks.count = n + 1;
+    let mut opened = book.auction;
+    opened.position = a.position;
+    opened.ceiling = ceiling;
+    opened.count = 0;
+    let mut after = book;
+    after.marks = marks;
+    after.auction = opened;
+    let outcome = Outcome::Done(0);
+    Answered {
+        book: after,
+        outcome,
+    }
+}
+
+pub fn attempt(book: Book, a: Attempt) -> Answered
+    requires { ⌜ Valid book ⌝ }
+    ensures { λ r. ⌜ Returned book (call (event.Attempt a) 0) (r .book) (r .outcome) [] ⌝ }
+{
+    if !is_within(1, book.positions.count, a.position as usize) {
+        let outcome = Outcome::Refused(NOT_THERE);
+        return Answered { book, outcome };
+    }
+    let p = position_at(book.positions, a.position);
+    let class = class_of(book.register, p.security);
+    let latest = latest_of(book.prices, p.security);
+    let today = step_today(class, book.day, p);
+    let marked = auction::is_marked(book.marks, a.position);
+    let number = attempt_refusal(
+        p,
+        today,
+        book.auction.position,
+        latest,
+        book.marks.count,
+        marked,
+    );
+    if number != 0 {
+        let outcome = Outcome::Refused(number);
+        return Answered { book, outcome };
+    }
+    let ceiling = rules::ceiling_of(class, latest);
+    open_auction(book, a, ceiling)
+}
+
+// The refusals of an offer that its fields and the auction's position decide.
+fn offer_refusal(held: usize, auction: u16, o: Offer) -> u8
+    ensures { λ r. ⌜ r ≡ offerRefusal held auction o ⌝ }
+{
+    if !is_member(o.offerer) {
+        return NO_MEMBER;
+    }
+    if !is_within(1, held, o.position as usize) {
+        return NOT_THERE;
+    }
+    if !is_quantity(o.quantity) {
+        return WRONG_QUANTITY;
+    }
+    if !is_price(o.price) {
+        return WRONG_PRICE;
+    }
+    if !runs_on(auction, o.position) {
+        return AUCTION;
+    }
+    0
+}
+
+// Those after them, which the auction decides.
+fn auction_refusal(fails: bool, ceiling: u64, offers: usize, price: u32) -> u8
+    ensures { λ r. ⌜ r ≡ auctionRefusal fails ceiling offers price ⌝ }
+{
+    if fails {
+        return FAILING;
+    }
+    if ceiling < price as u64 {
+        return ABOVE_CEILING;
+    }
+    if 16 <= offers {
+        return OFFERS_FULL;
+    }
+    0
+}
+
+fn add_offer(book: Book, o: Offer) -> Answered
+    requires { ⌜ (Fits book) × (book .auction .count < 16) ⌝ }
+    ensures { λ r. ⌜ Done book (event.Offer o) r ⌝ }
+{
+    let mut entered = book.auction;
+    let n = entered.count;
+    entered.offers[n] = o;
+    entered.count = n + 1;
+    let mut after = book;
+    after.auction = entered;
+    let outcome = Outcome::Done(o.quantity);
+    Answered {
+        book: after,
+        outcome,
+    }
+}
+
+pub fn offer(book: Book, o: Offer) -> Answered
+    requires { ⌜ Valid book ⌝ }
+    ensures { λ r. ⌜ Returned book (call (event.Offer o) 0) (r .book) (r .outcome) [] ⌝ }
+{
+    let first = offer_refusal(book.positions.count, book.auction.position, o);
+    if first != 0 {
+        let outcome = Outcome::Refused(first);
+        return Answered { book, outcome };
+    }
+    let short = position_at(book.positions, o.position);
+    let word = auction::failing_members(book.positions, book.day, short.security);
+    let fails = auction::is_failing(word, o.offerer);
+    let number = auction_refusal(fails, book.auction.ceiling, book.auction.count, o.price);
+    if number != 0 {
+        let outcome = Outcome::Refused(number);
+        return Answered { book, outcome };
+    }
+    add_offer(book, o)
+}
+
+// An array of its own function, so that what calls it knows its length alone.
+fn no_pieces() -> Pieces
+    ensures { λ r. ⌜ discharging.NoPieces r ⌝ }
+{
+    let none = Piece {
+        short: 0,
+        long: 0,
+        quantity: 0,
+        manner: Manner::Delivered,
+        cents: 0,
+    };
+    let items = [none; 1024];
+    Pieces { items, count: 0 }
+}
+
+fn refused(book: Book, number: u8) -> Discharged
+    ensures { λ r. ⌜ discharging.Refused book number r ⌝ }
+{
+    let outcome = Outcome::Refused(number);
+    let pieces = no_pieces();
+    Discharged {
+        book,
+        outcome,
+        pieces,
+    }
+}
+
+// The refusals before the position or award is looked at.
+fn lookup_refusal(sheet: usize, held: usize, number: u16) -> u8
+    ensures { λ r. ⌜ r ≡ discharging.lookupRefusal sheet held number ⌝ }
+{
+    if sheet < 1024 {
+        return SMALL_SHEET;
+    }
+    if !is_within(1, held, number as usize) {
+        return NOT_THERE;
+    }
+    0
+}
+
+// What is open and not reserved for awards.
+fn free_units(unsettled: u32, reserved: u32) -> u32
+    ensures { λ r. ⌜ r ≡ unsettled - reserved ⌝ }
+{
+    if unsettled < reserved {
+        return 0;
+    }
+    unsettled - reserved
+}
+
+fn delivery_refusal(p: Position, day: BusinessDay, auction: u16, reserved: u32, d: Delivery) -> u8
+    ensures { λ r. ⌜ r ≡ discharging.deliveryRefusal p (day .0) auction reserved d ⌝ }
+{
+    if d.quantity == 0 {
+        return WRONG_QUANTITY;
+    }
+    if !p.short {
+        return LONG;
+    }
+    if day.0 < p.settlement.0 {
+        return OUTSIDE_WINDOW;
+    }
+    if runs_on(auction, d.position) {
+        return AUCTION;
+    }
+    if free_units(p.unsettled, reserved) < d.quantity {
+        return NOT_ENOUGH;
+    }
+    0
+}
+
+fn deliver(book: Book, position: u16, quantity: u32) -> Discharged
+    requires { ⌜ discharging.Dischargeable book (event.Delivery (record { position = position; quantity = quantity })) ⌝ }
+    ensures { λ r. ⌜ discharging.Done book (event.Delivery (record { position = position; quantity = quantity })) r ⌝ }
+{
+    let dealt = positions::deal(
+        book.positions,
+        book.day,
+        position,
+        quantity,
+        Manner::Delivered,
+    );
+    let positions = dealt.positions;
+    let pieces = dealt.pieces;
+    let mut after = book;
+    after.positions = positions;
+    let outcome = Outcome::Done(quantity);
+    Discharged {
+        book: after,
+        outcome,
+        pieces,
+    }
+}
+
+pub fn delivery(book: Book, sheet: usize, d: Delivery) -> Discharged
+    requires { ⌜ Valid book ⌝ }
+    ensures { λ r. ⌜ (Returned book (call (event.Delivery d) sheet) (r .book) (r .outcome) (tables.pieces (r .pieces))) × (tables.PiecesFit (r .pieces)) ⌝ }
+{
+    let missing = lookup_refusal(sheet, book.positions.count, d.position);
+    if missing != 0 {
+        return refused(book, missing);
+    }
+    let p = position_at(book.positions, d.position);
+    let reserved = auction::unconfirmed_units(book.awards, d.position);
+    let number = delivery_refusal(p, book.day, book.auction.position, reserved, d);
+    if number != 0 {
+        return refused(book, number);
+    }
+    deliver(book, d.position, d.quantity)
+}
+
+fn award_of(awards: Awards, number: u16) -> Award
+    requires { ⌜ (tables.AwardsFit awards) × (1 ≤ number) × (number ≤ awards .count) ⌝ }
+    ensures { λ r. ⌜ r ≡ nth noAward (tables.awards awards) number ⌝ }
+{
+    let n = number as usize;
+    let found = awards.items[n - 1];
+    found
+}
+
+fn confirm_refusal(award: Award) -> u8
+    ensures { λ r. ⌜ r ≡ discharging.confirmRefusal award ⌝ }
+{
+    if award.confirmed {
+        return CONFIRMED;
+    }
+    0
+}
+
+// The award's units are bought in, charged to the short's member, and the award is marked.
+fn buy_in(book: Book, c: Confirm, award: Award) -> Discharged
+    requires { ⌜ (discharging.Dischargeable book (event.Confirm c)) × (award ≡ awardOf (view book) (c .award)) ⌝ }
+    ensures { λ r. ⌜ discharging.Done book (event.Confirm c) r ⌝ }
+{
+    let p = position_at(book.positions, award.position);
+    let dealt = positions::deal(
+        book.positions,
+        book.day,
+        award.position,
+        award.quantity,
+        Manner::BoughtIn,
+    );
+    let ledger = ledger::post_buy_in(
+        book.ledger,
+        p.member,
+        award.quantity,
+        award.price,
+        p.reference,
+    );
+    let awards = auction::confirm_award(book.awards, c.award);
+    let positions = dealt.positions;
+    let pieces = dealt.pieces;
+    let mut after = book;
+    after.positions = positions;
+    after.awards = awards;
+    after.ledger = ledger;
+    let outcome = Outcome::Done(award.quantity);
+    Discharged {
+        book: after,
+        outcome,
+        pieces,
+    }
+}
+
+pub fn confirm(book: Book, sheet: usize, c: Confirm) -> Discharged
+    requires { ⌜ Valid book ⌝ }
+    ensures { λ r. ⌜ (Returned book (call (event.Confirm c) sheet) (r .book) (r .outcome) (tables.pieces (r .pieces))) × (tables.PiecesFit (r .pieces)) ⌝ }
+{
+    let missing = lookup_refusal(sheet, book.awards.count, c.award);
+    if missing != 0 {
+        return refused(book, missing);
+    }
+    let award = award_of(book.awards, c.award);
+    let number = confirm_refusal(award);
+    if number != 0 {
+        return refused(book, number);
+    }
+    buy_in(book, c, award)
+}
+
+fn is_cash(step: Step) -> bool
+    ensures { λ r. ⌜ r ≡ eqb (stepKind step) 8 ⌝ }
+{
+    match step {
+        Step::Nothing => false,
+        Step::Attempt => false,
+        Step::Cash => true,
+    }
+}
+
+fn cash_refusal(p: Position, today: Step, latest: u32) -> u8
+    ensures { λ r. ⌜ r ≡ discharging.cashRefusal p today latest ⌝ }
+{
+    if !p.short {
+        return LONG;
+    }
+    if !is_cash(today) {
+        return OUTSIDE_WINDOW;
+    }
+    if latest == 0 {
+        return NO_PRICE;
+    }
+    if p.unsettled == 0 {
+        return NOT_ENOUGH;
+    }
+    0
+}
+
+// All that is open is dealt out, then priced over the positions as they were, and paid for with the fee.
+fn settle_in_cash(book: Book, c: Cash, unsettled: u32, class: u8, latest: u32) -> Discharged
+    requires { ⌜ (discharging.Dischargeable book (event.Cash c)) × (discharging.Terms (view book) (c .position) unsettled class latest) ⌝ }
+    ensures { λ r. ⌜ discharging.Done book (event.Cash c) r ⌝ }
+{
+    let dealt = positions::deal(
+        book.positions,
+        book.day,
+        c.position,
+        unsettled,
+        Manner::Cash,
+    );
+    let positions = dealt.positions;
+    let unpriced = dealt.pieces;
+    let pieces = ledger::price_pieces(unpriced, book.positions, class, latest);
+    let ledger = ledger::post_cash(book.ledger, pieces, book.positions, c.position, latest);
+    let mut after = book;
+    after.positions = positions;
+    after.ledger = ledger;
+    let outcome = Outcome::Done(unsettled);
+    Discharged {
+        book: after,
+        outcome,
+        pieces,
+    }
+}
+
+pub fn cash(book: Book, sheet: usize, c: Cash) -> Discharged
+    requires { ⌜ Valid book ⌝ }
+    ensures { λ r. ⌜ (Returned book (call (event.Cash c) sheet) (r .book) (r .outcome) (tables.pieces (r .pieces))) × (tables.PiecesFit (r .pieces)) ⌝ }
+{
+    let missing = lookup_refusal(sheet, book.positions.count, c.position);
+    if missing != 0 {
+        return refused(book, missing);
+    }
+    let p = position_at(book.positions, c.position);
+    let class = class_of(book.register, p.security);
+    let latest = latest_of(book.prices, p.security);
+    let today = step_today(class, book.day, p);
+    let number = cash_refusal(p, today, latest);
+    if number != 0 {
+        return refused(book, number);
+    }
+    settle_in_cash(book, c, p.unsettled, class, latest)
+}
+
+fn close_refusal(auctioned: u16, day: BusinessDay) -> u8
+    ensures { λ r. ⌜ r ≡ closeRefusal auctioned (day .0) ⌝ }
+{
+    if 0 < auctioned {
+        return AUCTION;
+    }
+    if 9_999 <= day.0 {
+        return NO_NEXT_DAY;
+    }
+    0
+}
+
+// The charges go by the positions and awards of the day that ends, so they are posted before it is netted.
+fn close_done(book: Book) -> Book
+    requires { ⌜ (Valid book) × (refusal (view book) (call event.Close 0) ≡ 0) ⌝ }
+    ensures { λ r. ⌜ (view r ≡ done (view book) event.Close) × (Fits r) ⌝ }
+{
+    let day = book.day;
+    let register = book.register;
+    let trades = book.trades;
+    let positions = book.positions;
+    let charged = ledger::post_close(
+        book.ledger,
+        book.awards,
+        positions,
+        book.prices,
+        register,
+        day,
+    );
+    let netted = netting::net_day(positions, trades, day, register.count);
+    let tomorrow = BusinessDay(day.0 + 1);
+    let mut after = book;
+    after.ledger = charged;
+    after.positions = netted;
+    after.trades.netted = trades.count;
+    after.awards.count = 0;
+    after.marks.count = 0;
+    after.day = tomorrow;
+    after
+}
+
+pub fn close(book: Book) -> Answered
+    requires { ⌜ Valid book ⌝ }
+    ensures { λ r. ⌜ Returned book (call event.Close 0) (r .book) (r .outcome) [] ⌝ }
+{
+    let number = close_refusal(book.auction.position, book.day);
+    if number != 0 {
+        let outcome = Outcome::Refused(number);
+        return Answered { book, outcome };
+    }
+    let after = close_done(book);
+    let outcome = Outcome::Done(0);
+    Answered {
+        book: after,
+        outcome,
+    }
+}
+
+fn without_pieces(answer: Answered) -> Discharged
+    ensures { λ r. ⌜ WithoutPieces answer r ⌝ }
+{
+    let book = answer.book;
+    let outcome = answer.outcome;
+    let pieces = no_pieces();
+    Discharged {
+        book,
+        outcome,
+        pieces,
+    }
+}
+
+// One event, by the call of its kind.
+pub fn step(book: Book, sheet: usize, e: Event) -> Discharged
+    requires { ⌜ Valid book ⌝ }
+    ensures { λ r. ⌜ Stepped book e sheet r ⌝ }
+{
+    match e {
+        Event::Trade(t) => without_pieces(trade(book, t)),
+        Event::Price(p) => without_pieces(price(book, p)),
+        Event::Delivery(d) => delivery(book, sheet, d),
+        Event::Attempt(a) => without_pieces(attempt(book, a)),
+        Event::Offer(o) => without_pieces(offer(book, o)),
+        Event::Award(a) => without_pieces(award(book, a)),
+        Event::Confirm(c) => confirm(book, sheet, c),
+        Event::Cash(c) => cash(book, sheet, c),
+        Event::Close => without_pieces(close(book)),
+    }
 }
