@@ -27,6 +27,7 @@ use Rattle.ledger.proofs.Reached.{call-room, positions-count, all-accounted, al
 use Rattle.book.specs.declared.Book.{Book}
 use Rattle.book.specs.View.{view, Fits, Valid}
 use Rattle.book.specs.Closing.{closeRefusal, close-refusal-is}
+use Rattle.book.proofs.Entered.{all-held}
 
 pub close-number : (b : Book) → refusal (view b) (call event.Close 0) ≡ closeRefusal (b .auction .position) (b .day .0)
 unfolding view Rattle.tables.specs.Tables.auction
@@ -41,10 +42,6 @@ close-early b e = close-taken (view b) 0 e .early
 module _ (t : Trades) (f : table.TradesFit t) where
   in-use : length (take (t .count) (t .items)) ≡ t .count
   in-use = length-take-le (t .count) (t .items) (omega (arith, f .places, f .held))
-
-  all-netted : t .count ≡ t .netted + length (table.today t)
-  unfolding Rattle.tables.specs.Tables.today
-  all-netted = omega (arith, length-drop (t .netted) (take (t .count) (t .items)), in-use, f .past)
 
   none-today : drop (t .count) (take (t .count) (t .items)) ≡ []
   none-today = ap (λ (n : ℕ). drop n (take (t .count) (t .items))) (sym in-use) ∙ drop-length (take (t .count) (t .items))
@@ -126,7 +123,7 @@ module _
     unfolding view done Rattle.tables.specs.Tables.today Rattle.tables.specs.Tables.awards Rattle.tables.specs.Tables.marks
     closed-view =
         let tomorrow : b .day .0 + 1 ≡ suc (b .day .0) = omega arith in
-        let past = all-netted (b .trades) (v .fits .trades) in
+        let past = sym (all-held (b .trades) (v .fits .trades)) in
         let trades = none-today (b .trades) (v .fits .trades) in
         let ledger = charged ∙ ap (λ (cs : List Charge). posted (b .ledger) cs) (same-charges b v) in
         λ i.

@@ -40,7 +40,7 @@ use Rattle.plain.specs.Histories.{eventOf}
 use Rattle.plain.proofs.Accepted.{Within, delivery-taken, confirm-taken, cash-taken}
 use Rattle.plain.proofs.Invariants.{Fair, Dealable, Deals, dueShort, dueLong, openOf, AwardFits}
 use Rattle.plain.proofs.AwardSteps.{delivery-dealable, confirm-dealable, cash-dealable}
-use Rattle.plain.proofs.Dealt.{deals}
+use Rattle.plain.proofs.Dealt.{deals, longs-suffice}
 use Rattle.plain.proofs.Sound.{done-sound, sound-dealt}
 use Rattle.plain.proofs.Accounts.{Places, Booked, booked, posted-places}
 use Rattle.plain.proofs.Bound.{done-bound}
@@ -102,23 +102,7 @@ rest-zero false rest e = e
 
 -- What the callees ask
 
--- an element counts in its sum
-sum-at : {A : Type 0} (f : A → ℕ) (xs : List A) (i : ℕ) (x : A) → i < length xs → f (getD xs i x) ≤ sum f xs
-sum-at f [] i x h = absurd (omega arith)
-sum-at f (y ∷ xs) zero x h = omega arith
-sum-at f (y ∷ xs) (suc i) x h = omega (arith, sum-at f xs i x (omega arith))
-
 module _ (b : Book) (v : Valid b) where
-  -- the due longs of a security suffice for what is open of its due shorts
-  longs-suffice : (n q : ℕ) → Dealable (view b) n q → q ≤ openOf (dueLong (view b .day) (plain.positionOf (view b) n .security)) (view b .positions)
-  longs-suffice n q f =
-      let p : Position = plain.positionOf (view b) n in
-      let s : ℕ = p .security in
-      let day = view b .day in
-      let is : dueShort day s p ≡ true = both (p .short && eqb (p .security) s) _ (both (p .short) _ (f .short) (eq-eqb s s refl)) (f .is-due) in
-      let at : only (dueShort day s p) (p .unsettled) ≤ openOf (dueShort day s) (view b .positions) = sum-at (λ q. only (dueShort day s q) (q .unsettled)) (view b .positions) (n - 1) plain.noPosition (omega (arith, f .held .above, f .held .below)) in
-      omega (arith, rw is at at, v .sound .settled .even .opened s, f .enough)
-
   pub dealing : (n q : ℕ) → Dealable (view b) n q → Dealing (b .positions) (b .day .0) n q
   unfolding view
   dealing n q f =
@@ -129,7 +113,7 @@ module _ (b : Book) (v : Valid b) where
         is-short = f .short;
         is-due = f .is-due;
         enough = f .enough;
-        suffice = longs-suffice n q f;
+        suffice = longs-suffice (view b) n q (v .sound .settled .even) f;
         whole = v .sound .settled .whole;
         bounded = all-of (Fair (b .register .count) (b .day .0)) (λ p. p .netted ≤ 512000000) (table.positions (b .positions)) (λ p h. h .netted .below) (v .sound .standing .fair);
       }

@@ -22,7 +22,7 @@ use Rattle.book.specs.Entering.{within, tradeReasons, tradeRefusal, pric
 use Rattle.book.proofs.Chosen.{within-low, within-high}
 
 -- the trades of earlier days and of today are all that the table holds
-all-held : (t : Trades) → table.TradesFit t → t .netted + length (table.today t) ≡ t .count
+pub all-held : (t : Trades) → table.TradesFit t → t .netted + length (table.today t) ≡ t .count
 unfolding Rattle.tables.specs.Tables.today
 all-held t f =
     omega (arith, length-drop (t .netted) (take (t .count) (t .items)), length-take-le (t .count) (t .items) (omega (arith, f .places, f .held)), f .past)

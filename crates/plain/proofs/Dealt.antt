@@ -191,7 +191,16 @@ sum-at f [] i x h = absurd (omega arith)
 sum-at f (y ∷ xs) zero x h = omega arith
 sum-at f (y ∷ xs) (suc i) x h = omega (arith, sum-at f xs i x (omega arith))
 
--- Where the totals are equal, a discharge is dealt out whole
+-- Where the totals are equal, the due longs of a security suffice for what is open of its due shorts
+pub longs-suffice : (b : Book) (n q : ℕ) → Even (b .day) (b .positions) → Dealable b n q → q ≤ openOf (dueLong (b .day) (positionOf b n .security)) (b .positions)
+longs-suffice b n q even f =
+    let p : Position = positionOf b n in
+    let s : ℕ = p .security in
+    let is : dueShort (b .day) s p ≡ true = both (p .short && eqb (p .security) s) _ (both (p .short) _ (f .short) (eq-eqb s s refl)) (f .is-due) in
+    let at : only (dueShort (b .day) s p) (p .unsettled) ≤ openOf (dueShort (b .day) s) (b .positions) = sum-at (λ q. only (dueShort (b .day) s q) (q .unsettled)) (b .positions) (n - 1) noPosition (omega (arith, f .held .above, f .held .below)) in
+    omega (arith, rw is at at, even .opened s, f .enough)
+
+-- and a discharge is dealt out whole
 pub deals : (b : Book) (m : Manner) (n q : ℕ) → Even (b .day) (b .positions) → Dealable b n q → Deals b m n q (dealt b m n q)
 unfolding dealt
 deals b m n q even f =
@@ -201,7 +210,7 @@ deals b m n q even f =
       manners = deal-all m n (λ x. x .manner ≡ m) (λ t. Unit {0}) (λ t k h. refl) ts q (Rattle.laws.specs.Alls.all-any (λ t. Unit {0}) ts (λ t. tt));
       longs = deal-all m n (λ x. DueLong b s (x .long)) (λ t. DueLong b s (t .number)) (λ t k h. h) ts q (takers-all b s);
       fits = λ i h. unfold has in omega (arith, deal-long m n (suc i) ts q, takers-has (b .day) s (b .positions) i h);
-      total = omega (arith, deal-total m n ts q, takers-sum (b .day) s (b .positions), even .opened s, short-open, f .enough);
+      total = omega (arith, deal-total m n ts q, takers-sum (b .day) s (b .positions), longs-suffice b n q even f);
     }
   where
     s : ℕ
@@ -209,13 +218,6 @@ deals b m n q even f =
 
     ts : List Taker
     ts = takers (b .day) s (b .positions)
-
-    short-open : positionOf b n .unsettled ≤ openOf (dueShort (b .day) s) (b .positions)
-    short-open =
-        let p : Position = positionOf b n in
-        let yes' : dueShort (b .day) s p ≡ true = both (p .short && eqb (p .security) s) _ (both (p .short) _ (f .short) (eq-eqb s s refl)) (f .is-due) in
-        let at : only (dueShort (b .day) s p) (p .unsettled) ≤ openOf (dueShort (b .day) s) (b .positions) = sum-at (λ q. only (dueShort (b .day) s q) (q .unsettled)) (b .positions) (n - 1) noPosition (omega (arith, f .held .above, f .held .below)) in
-        rw yes' at at
 
 -- Pricing changes no short, long, quantity or manner
 pub deals-priced : (b : Book) (m : Manner) (n q : ℕ) (xs : List Piece) → Deals b m n q xs → Deals b m n q (map (priced b) xs)

@@ -1,0 +1,26 @@
+-- The events that are left decide what the book will be.
+use Prim.Native.Nat.{ℕ, _+_, _≤_, _<_}
+use mathlib.Core.Path.{_≡_, ap, sym, _∙_}
+use mathlib.Core.List.{List}
+use lib.ListN.{length, getD, drop, drop-of-length-le}
+use Rattle.laws.specs.Places.{drop-at}
+use Rattle.events.specs.declared.Event.{Event}
+use Rattle.plain.specs.Book.{Book}
+use Rattle.plain.specs.Calls.{call}
+use Rattle.plain.specs.Histories.{next, run}
+use Rattle.replay.specs.Replay.{callsOf}
+
+-- a book after the events from the i-th on
+abbrev pub finally : Book → List Event → ℕ → Book
+finally b events i = run b (callsOf (drop i events))
+
+pub left-next : (b after : Book) (events : List Event) (i : ℕ) (d e : Event) → i < length events → e ≡ getD events i d
+    → after ≡ next b (call e 1024) → finally after events (i + 1) ≡ finally b events i
+unfolding run
+left-next b after events i d e h same stepped =
+    ap (λ (p : Book). finally p events (i + 1)) (stepped ∙ ap (λ (x : Event). next b (call x 1024)) same)
+    ∙ sym (ap (λ (rest : List Event). run b (callsOf rest)) (drop-at events i d h))
+
+pub left-none : (b : Book) (events : List Event) (i : ℕ) → length events ≤ i → finally b events i ≡ b
+unfolding run
+left-none b events i h = ap (λ (rest : List Event). run b (callsOf rest)) (drop-of-length-le events {i = i} h)
