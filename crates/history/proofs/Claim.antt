@@ -1,11 +1,16 @@
 -- The claim about histories: after every list of the calls from any opened book, refused ones included, with sheets of any length.
-use Prim.Native.Nat.{ℕ, zero, suc, _+_, _≤_, _<_}
+use Prim.Native.Nat.{ℕ, zero, suc, _+_, _-_, _≤_, _<_}
+use native.Mathlib.Omega.{arith}
 use mathlib.Core.Path.{_≡_, refl, ap, sym, _∙_, subst}
 use mathlib.Core.Logic.{_≢_}
 use mathlib.Core.List.{List, [], _∷_, _++_, map}
+use mathlib.Core.Bool.{not}
 use lib.ListN.{length, getD}
+use lib.Dec.{ltb}
+use borrow.Author.Tests.{not-false, le-ltb}
 use lib.IntN.{ℤ, pos, subℕ}
 use Rattle.laws.specs.Lists.{All, each, range, sum}
+use Rattle.laws.specs.Refusals.{_⇒_, accepted-zero, none-applies}
 use Rattle.laws.specs.Integers.{sumℤ}
 use Rattle.register.specs.declared.Register.{Register}
 use Rattle.plain.specs.declared.Piece.{Piece}
@@ -18,7 +23,7 @@ use Rattle.plain.specs.Charging.{creditOf, debitOf}
 use Rattle.plain.specs.Calls.{Call, shortOf}
 use Rattle.plain.specs.Refusals.{refusal}
 use Rattle.plain.specs.Histories.{eventOf, next, pieces, quantity, run, handed, allCharges, acceptedEvents, formed, balance}
-use Rattle.plain.proofs.Accepted.{next-keeps}
+use Rattle.plain.proofs.Accepted.{Within, within, next-keeps}
 use Rattle.plain.proofs.Invariants.{DueLong}
 use Rattle.plain.proofs.Sound.{Sound, done-sound, new-sound}
 use Rattle.plain.proofs.Discharges.{Discharge, discharge}
@@ -26,6 +31,9 @@ use Rattle.plain.proofs.Bound.{Small}
 use Rattle.plain.proofs.Claim as told
 use Rattle.book.specs.declared.Book.{Book}
 use Rattle.book.specs.View.{view, numberOf, quantityOf, Returned}
+use Rattle.book.specs.declared.PositionAnswer.{PositionAnswer}
+use Rattle.book.specs.declared.BalanceAnswer.{BalanceAnswer}
+use Rattle.book.specs.Reading.{notThere, positionNumber, positionFound, PositionRead, centsOf, BalanceRead}
 use Rattle.history.specs.Runs.{Return, Runs, stop, step, last, sheets, refusals, quantities, dealings}
 
 -- The machine's calls follow the plain book
@@ -98,6 +106,19 @@ all-kept : {b : Book} {cs : List Call} {rs : List Return} → Runs b cs rs → E
 all-kept stop = none
 all-kept (step {b = b} {c = c} {r = r} k rs) = one (kept b c r k) (all-kept rs)
 
+-- What the reads report
+
+read-there : (b : plain.Book) (n : ℕ) (a : PositionAnswer) → PositionRead b n a → positionNumber a ≡ 0 → Within 1 (length (b .positions)) n
+read-there b n a r e =
+    let reasons = (not (plain.there (b .positions) n) ⇒ 11) ∷ [] in
+    within 1 (length (b .positions)) n (not-false _ (none-applies reasons refl (sym (r .number) ∙ e) .0))
+
+read-found : (b : plain.Book) (n : ℕ) (a : PositionAnswer) → PositionRead b n a → positionNumber a ≡ 0 → positionFound a ≡ positionOf b n
+read-found b n a r e = r .position ∙ accepted-zero (notThere (b .positions) n) (positionOf b n) noPosition (sym (r .number) ∙ e)
+
+read-cents : (b : plain.Book) (k : ℕ) (a : BalanceAnswer) → BalanceRead b k a → k < 64 → centsOf a ≡ balance b k
+read-cents b k a r h = r .cents ∙ simp (le-ltb 63 k (omega arith))
+
 -- The claim
 
 pub record History (register : Register) (b : Book) (cs : List Call) (rs : List Return) : Type 0 where
@@ -110,11 +131,18 @@ pub record History (register : Register) (b : Book) (cs : List Call) (rs : List 
       → getD (formed (keys (register .count)) 1 [] (acceptedEvents (new register) cs)) i noPosition .netted
       ≡ takenBy Delivered (suc i) (sheets rs) + takenBy BoughtIn (suc i) (sheets rs) + takenBy Cash (suc i) (sheets rs)
       + getD (view (last b rs) .positions) i noPosition .unsettled
+  -- the same of what the public read reports of a position: its answer, as the read's contract has it
+  pub open-units : (n : ℕ) (a : PositionAnswer) → PositionRead (view (last b rs)) n a → positionNumber a ≡ 0
+      → getD (formed (keys (register .count)) 1 [] (acceptedEvents (new register) cs)) (n - 1) noPosition .netted
+      ≡ takenBy Delivered n (sheets rs) + takenBy BoughtIn n (sheets rs) + takenBy Cash n (sheets rs) + positionFound a .unsettled
   -- 3. each call's pieces are the plain book's, in the same order; an accepted discharge's add up to the quantity that it reports
   pub dealt : map (λ r. r .pieces) rs ≡ dealings (new register) cs
   pub discharges : Each DealtOut b cs rs
   -- 4. every account is the charging rules summed over the list
   pub accounts : (k : ℕ) → k < 64 → balance (view (last b rs)) k ≡ subℕ (creditOf k (allCharges (new register) cs)) (debitOf k (allCharges (new register) cs))
+  -- the same of what the public read reports of an account
+  pub balances : (k : ℕ) (a : BalanceAnswer) → BalanceRead (view (last b rs)) k a → k < 64
+      → centsOf a ≡ subℕ (creditOf k (allCharges (new register) cs)) (debitOf k (allCharges (new register) cs))
   -- 5. all 64 accounts add up to zero, and none leaves plus or minus 10^17 cents
   pub zero-sum : sumℤ (balance (view (last b rs))) (range 0 64) ≡ pos 0
   pub small : (k : ℕ) → Small (view (last b rs)) k
@@ -131,9 +159,15 @@ history register {b} {cs} {rs} e runs =
       reported = same-quantities runs ∙ ap (λ (p : plain.Book). quantities p cs) e;
       book = same;
       netted = rw (same, given) (λ i h. sym (claim .netted i) ∙ claim .tallied i h);
+      open-units = λ n a r z.
+          let held = read-there (view (last b rs)) n a r z in
+          let place : suc (n - 1) ≡ n = omega (arith, held .above) in
+          let here : n - 1 < length (run (new register) cs .positions) = omega (arith, held .above, held .below, ap (λ (p : plain.Book). length (p .positions)) same) in
+          rw (given, read-found (view (last b rs)) n a r z, same) (rw place at (sym (claim .netted (n - 1)) ∙ claim .tallied (n - 1) here));
       dealt = same-dealings runs ∙ ap (λ (p : plain.Book). dealings p cs) e;
       discharges = all-dealt (subst Sound (sym e) (new-sound register)) runs;
       accounts = rw same (claim .accounts');
+      balances = λ k a r h. read-cents (view (last b rs)) k a r h ∙ ap (λ (p : plain.Book). balance p k) same ∙ claim .accounts' k h;
       zero-sum = rw same (claim .zero-sum);
       small = rw same (claim .small);
       refused = all-kept runs;
