@@ -5,6 +5,7 @@ ghost use mathlib.Core.List.{[]};
 ghost use lib.ListN.{length, replicate};
 ghost use Rattle.register.specs.Accepted.{Registered};
 ghost use Rattle.plain.specs.Book.{new, noPosition, nth, noAward, positionOf, awardOf, classOf, latestOf};
+ghost use Rattle.plain.proofs.Accounts.{Places};
 ghost use Rattle.plain.specs.Calls.{call, done};
 ghost use Rattle.plain.specs.Refusals.{isMember, isQuantity, isPrice, refusal};
 ghost use Rattle.book.specs.View.{view, Fits, Valid, Returned};
@@ -413,6 +414,22 @@ pub fn position(book: Book, number: u16) -> PositionAnswer
     let positions = book.positions;
     let found = positions.items[n - 1];
     PositionAnswer::Found(found)
+}
+
+// All positions at once, for a caller that reports them.
+pub fn position_table(book: Book) -> Positions
+    requires { ⌜ Valid book ⌝ }
+    ensures { λ r. ⌜ (tables.positions r ≡ view book .positions) × (tables.PositionsFit r) ⌝ }
+{
+    book.positions
+}
+
+// All accounts at once.
+pub fn accounts(book: Book) -> Ledger
+    requires { ⌜ Valid book ⌝ }
+    ensures { λ r. ⌜ (r ≡ view book .ledger) × (Places r) ⌝ }
+{
+    book.ledger
 }
 
 pub fn award_at(book: Book, number: u16) -> AwardAnswer

@@ -19,7 +19,7 @@ mannerNumber Cash = 3
 unfoldable pub due : ℕ → Position → Bool
 due day p = leb (p .settlement .0) day
 
--- a long of a security, due or not, and a due one
+-- a long of a security
 unfoldable pub longOf : ℕ → Position → Bool
 longOf security p = not (p .short) && eqb (p .security) security
 

@@ -20,7 +20,7 @@ use Rattle.plain.specs.declared.Manner.{Manner}
 use Rattle.plain.specs.declared.Manner.the-variants as manner
 use Rattle.plain.specs.Book.{Book, new}
 use Rattle.plain.specs.Histories.{run, handed, balance, computing}
-use Rattle.plain.specs.Worked.{refusals, quantities, oneShare, squeeze, example}
+use Rattle.plain.specs.Worked.{refusals, quantities, oneShare, squeeze, example, twoDays}
 
 -- a row: a value by the definitions, and the value expected
 pub record Row : Type 1 where
@@ -92,8 +92,12 @@ table =
     ∷ (handed (new oneShare) example is (piece 1 2 100 manner.Delivered 0 ∷ []))
     ∷ (map figures (delivered .positions) is ((100 ∷ 100 ∷ 0 ∷ 0 ∷ 0 ∷ []) ∷ (100 ∷ 100 ∷ 0 ∷ 0 ∷ 0 ∷ []) ∷ []))
     ∷ (map (balance delivered) (range 0 64) is replicate 64 (pos 0))
+    -- "lowest S first, then lowest number", over two delivery days
+    ∷ (refusals (new oneShare) twoDays is replicate 7 0)
+    ∷ (handed (new oneShare) twoDays
+    is (piece 3 2 50 manner.Delivered 0 ∷ piece 1 2 50 manner.Delivered 0 ∷ piece 1 4 50 manner.Delivered 0 ∷ []))
     ∷ []
 
 pub every-row : Holds table
 unfolding table shareStep recurringStep stepOn ceiling raised cashPrice roundedHalfUp fee cashFee awardFine lateFine buyInCharge inCents check.computing computing refusals quantities
-every-row = (refl, (refl, (refl, (refl, (refl, (refl, (refl, (refl, (refl, (refl, (refl, (refl, (refl, (refl, (refl, (refl, (refl, (refl, (refl, (refl, (refl, (refl, (refl, (refl, (refl, tt)))))))))))))))))))))))))
+every-row = (refl, (refl, (refl, (refl, (refl, (refl, (refl, (refl, (refl, (refl, (refl, (refl, (refl, (refl, (refl, (refl, (refl, (refl, (refl, (refl, (refl, (refl, (refl, (refl, (refl, (refl, (refl, tt)))))))))))))))))))))))))))

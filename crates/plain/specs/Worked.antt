@@ -35,8 +35,11 @@ trade seller buyer quantity price =
 abbrev price : ℕ → Event
 price p = event.Price (record { security = 1; price = p })
 
+abbrev deliveryOf : ℕ → ℕ → Event
+deliveryOf n q = event.Delivery (record { position = n; quantity = q })
+
 abbrev delivery : ℕ → Event
-delivery q = event.Delivery (record { position = 1; quantity = q })
+delivery q = deliveryOf 1 q
 
 abbrev offer : ℕ → ℕ → ℕ → Event
 offer member quantity price = event.Offer (record { position = 1; offerer = member; quantity = quantity; price = price })
@@ -69,3 +72,18 @@ squeeze =
 -- "member 1 sells to member 2 100 units of security 1 at 1,000; close; close; deliver 100 of position 1"
 abbrev pub example : List Call
 example = calls (trade 1 2 100 1000 ∷ event.Close ∷ event.Close ∷ delivery 100 ∷ [])
+
+-- two delivery days: day 1, member 1 sells 100 to 2; day 2, member 3 sells 50 to 4; on day 4 all are due. The delivery of the later short goes
+-- to the earlier long first, so that the earlier short's reaches the later long ("pairing a short only with longs of its own S" is a habit of
+-- older books)
+abbrev pub twoDays : List Call
+twoDays =
+    calls
+    (trade 1 2 100 1000
+    ∷ event.Close
+    ∷ trade 3 4 50 1000
+    ∷ event.Close
+    ∷ event.Close
+    ∷ deliveryOf 3 50
+    ∷ deliveryOf 1 100
+    ∷ [])
