@@ -1,0 +1,5 @@
+pub mod Calling
+pub mod Elements
+pub mod Filling
+pub mod Lending
+pub mod Overwriting
