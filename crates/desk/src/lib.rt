@@ -9,9 +9,11 @@ ghost use Rattle.register.specs.Register.{registerRead};
 ghost use Rattle.calendar.specs.Answers.{dayToDate, dateRefusal, dateValue, dateToDay, dayRefusal, dayValue};
 ghost use Rattle.events.specs.File as file;
 ghost use Rattle.desk.specs.Answers;
+ghost use Rattle.desk.specs.Last;
 use calendar::DateAnswer;
 use calendar::DayAnswer;
 use events::Written;
+use plain::Outcome;
 use rules::Step;
 
 // A refusal number and a quantity as one number: the quantity is below 2^32.
@@ -131,5 +133,25 @@ pub extern "C" fn fails_copy_file(bytes: &[u8], page: &mut [u8]) -> u64
     match written {
         Written::Done(count) => packed(0, count),
         Written::Refused(number) => packed(number, 0),
+    }
+}
+
+// What the last event of the player's input answers, on a book that made so many closes before the first event, where the last event has a
+// sheet of so many places: refusals 1 to 26, or 0 with its quantity.
+#[no_mangle]
+pub extern "C" fn fails_last_call(input: &[u8], closes: u32, sheet: u32) -> u64
+    ensures { λ r. ⌜ r ≡ Answers.packed (Last.lastNumber (now (input .entry)) closes sheet) (Last.lastQuantity (now (input .entry)) closes sheet) ⌝ }
+{
+    let started = transcript::start(input);
+    let number = started.number;
+    if number != 0 {
+        return packed(number, 0);
+    }
+    let file = started.file;
+    let book = started.book;
+    let outcome = replay::last_answer(book, closes, &input[file..], sheet as usize);
+    match outcome {
+        Outcome::Done(quantity) => packed(0, quantity),
+        Outcome::Refused(refusal) => packed(refusal, 0),
     }
 }

@@ -1,58 +1,81 @@
--- The three answers: the register is refused, the file is refused, or the file is played.
-use Prim.Native.Nat.{ℕ}
-use mathlib.Core.Path.{_≡_, ap, sym, _∙_}
+-- What is answered: a refusal of the register or the file, or the book before and after the events.
+use Prim.Native.Nat.{ℕ, _-_, _<_}
+use native.Mathlib.Omega.{arith}
+use mathlib.Core.Path.{_≡_, ap, ap₂, sym, _∙_}
 use mathlib.Core.List.{List, []}
-use borrow.Author.Tests.{ne-eqb}
-use Rattle.laws.specs.Refusals.{accepted, accepted-not}
+use lib.ListN.{length, getD}
+use borrow.Author.Tests.{ne-eqb, lt-ltb, le-ltb}
+use Rattle.laws.specs.Refusals.{accepted-not}
 use Rattle.register.specs.Register.{registerRead}
-use Rattle.events.specs.File.{refusal, eventsOf}
+use Rattle.events.specs.declared.Event.{Event}
+use Rattle.events.specs.declared.Event.the-variants as event
+use Rattle.events.specs.File.{refusal, eventsOf, count}
+use Rattle.events.specs.Passing.{passing, events-counted}
 use Rattle.plain.specs.Book as plain
 use Rattle.plain.specs.Book.{new}
-use Rattle.plain.specs.Calls.{Call}
-use Rattle.plain.specs.Histories.{run}
+use Rattle.plain.specs.declared.Outcome.{Outcome}
+use Rattle.plain.specs.declared.Outcome.the-variants as outcome
+use Rattle.plain.specs.Calls.{call}
+use Rattle.plain.specs.Refusals as plain-refusal
+use Rattle.plain.specs.Histories.{run, quantity}
 use Rattle.book.specs.declared.Book.{Book}
 use Rattle.book.specs.declared.Opened.{Opened}
-use Rattle.book.specs.View.{view, Valid}
+use Rattle.book.specs.View.{view, Valid, numberOf, quantityOf}
 use Rattle.book.specs.Opening.{OpenedOn}
 use Rattle.replay.specs.declared.Replayed.{Replayed}
-use Rattle.replay.specs.Replay.{replayRefusal, callsOf, ReplayedFrom}
+use Rattle.replay.specs.Replay.{replayRefusal, callsOf, ReadyFor, ReplayedFrom, deciding, passing-file, beforeLast, LastAnswered}
 
 abbrev answer : ℕ → Book → Replayed
 answer n b = record { number = n; book = b }
 
--- no event is played on a book where there is a refusal
-none-played : (b : plain.Book) (n : ℕ) (calls : List Call) → (n ≡ 0 → ⊥) → b ≡ run b (accepted n calls [])
-unfolding run
-none-played b n calls h = sym (ap (run b) (accepted-not n calls [] h))
-
+-- the book is opened: the register is refused, or the file may be
 module _ (register file : List ℕ) (o : Opened) (opened : OpenedOn register o) where
-  pub refused-register : (o .number ≡ 0 → ⊥) → ReplayedFrom register file (answer (o .number) (o .book))
+  pub refused-register : (o .number ≡ 0 → ⊥) → ReadyFor register file (answer (o .number) (o .book))
   unfolding replayRefusal
   refused-register h =
+      record { number = rw (← opened .number, ne-eqb (o .number) 0 h); book = opened .book; valid = λ z. absurd (h z) }
+
+  pub checked-file : o .number ≡ 0 → (n : ℕ) → n ≡ refusal file → ReadyFor register file (answer n (o .book))
+  unfolding replayRefusal
+  checked-file passes n e =
+      record { number = rw (sym (opened .number) ∙ passes, ← e) (deciding n); book = opened .book; valid = λ z. opened .valid passes }
+
+-- the events are played, or none is
+module _ (register file : List ℕ) (o : Replayed) (opened : ReadyFor register file o) where
+  pub none-replayed : (o .number ≡ 0 → ⊥) → ReplayedFrom register file (answer (o .number) (o .book))
+  unfolding run
+  none-replayed h =
       record {
-        number = rw (← opened .number, ne-eqb (o .number) 0 h);
-        book = opened .book ∙ none-played (new (registerRead register .register)) (o .number) (callsOf (eventsOf file)) h;
+        number = opened .number;
+        book = opened .book ∙ sym (ap (run (new (registerRead register .register))) (accepted-not (o .number) (callsOf (eventsOf file)) [] h));
         valid = λ z. absurd (h z);
       }
 
-  module _ (passes : o .number ≡ 0) where
-    read : registerRead register .number ≡ 0
-    read = sym (opened .number) ∙ passes
+  pub replayed : o .number ≡ 0 → (after : Book) → view after ≡ run (view (o .book)) (callsOf (eventsOf file)) → Valid after → ReplayedFrom register file (answer 0 after)
+  replayed passes after same valid =
+      record {
+        number = sym passes ∙ opened .number;
+        book = same ∙ ap (λ (p : plain.Book). run p (callsOf (eventsOf file))) (opened .book);
+        valid = λ z. valid;
+      }
 
-    pub refused-file : (n : ℕ) → n ≡ refusal file → (n ≡ 0 → ⊥) → ReplayedFrom register file (answer n (o .book))
-    unfolding replayRefusal
-    refused-file n e h =
-        record {
-          number = rw (read, ← e, ne-eqb n 0 h);
-          book = opened .book ∙ none-played (new (registerRead register .register)) n (callsOf (eventsOf file)) h;
-          valid = λ z. absurd (h z);
-        }
+  -- a file that passes has as many events as its count says
+  pub counted : o .number ≡ 0 → length (eventsOf file) ≡ count file
+  counted passes =
+      let p : refusal file ≡ 0 = passing-file register file (sym (opened .number) ∙ passes) in
+      events-counted file (passing file p .long)
 
-    pub played : (after : Book) → refusal file ≡ 0 → view after ≡ run (view (o .book)) (callsOf (eventsOf file)) → Valid after → ReplayedFrom register file (answer 0 after)
-    unfolding replayRefusal
-    played after e same valid =
-        record {
-          number = rw (read, e);
-          book = same ∙ ap (λ (p : plain.Book). run p (callsOf (eventsOf file))) (opened .book);
-          valid = λ z. valid;
-        }
+-- what the last event answers, or nothing where there is none
+module _ (b : plain.Book) (closes : ℕ) (events : List Event) (sheet : ℕ) where
+  pub last-none : length events ≡ 0 → LastAnswered b closes events sheet (outcome.Done 0)
+  last-none e = record { number = rw (le-ltb 0 (length events) (omega (arith, e))); quantity = rw (le-ltb 0 (length events) (omega (arith, e))) }
+
+  pub last-some : 0 < length events → (o : Outcome) (p : plain.Book) (e : Event) → p ≡ beforeLast b closes events
+      → e ≡ getD events (length events - 1) event.Close → numberOf o ≡ plain-refusal.refusal p (call e sheet) → quantityOf o ≡ quantity p (call e sheet)
+      → LastAnswered b closes events sheet o
+  last-some some o p e book is number quantity' =
+      let there = lt-ltb 0 (length events) some in
+      record {
+        number = rw there (number ∙ ap₂ (λ (q : plain.Book) (x : Event). plain-refusal.refusal q (call x sheet)) book is);
+        quantity = rw there (quantity' ∙ ap₂ (λ (q : plain.Book) (x : Event). quantity q (call x sheet)) book is);
+      }

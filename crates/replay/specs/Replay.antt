@@ -1,16 +1,24 @@
 -- Document 01, 'Event files and the player': a file of events played on a new book.
-use Prim.Native.Nat.{ℕ}
-use mathlib.Core.Path.{_≡_}
+use Prim.Native.Nat.{ℕ, zero, suc, _-_}
+use native.Mathlib.Omega.{arith}
+use mathlib.Core.Path.{_≡_, refl, _∙_}
+use borrow.Author.Tests.{ne-eqb}
 use mathlib.Core.List.{List, [], _∷_, map}
+use lib.Dec.{ltb}
+use lib.ListN.{length, getD, take, replicate}
+use Rattle.laws.specs.Lists.{only}
 use Rattle.laws.specs.Refusals.{_⇒_, first, accepted}
 use Rattle.laws.specs.WordLaws.{nonzero}
 use Rattle.register.specs.Register.{registerRead}
 use Rattle.events.specs.declared.Event.{Event}
+use Rattle.events.specs.declared.Event.the-variants as event
 use Rattle.events.specs.File.{refusal, eventsOf}
-use Rattle.plain.specs.Book.{new}
+use Rattle.plain.specs.declared.Outcome.{Outcome}
+use Rattle.plain.specs.Book.{Book, new}
 use Rattle.plain.specs.Calls.{Call, call}
-use Rattle.plain.specs.Histories.{run}
-use Rattle.book.specs.View.{view, Valid}
+use Rattle.plain.specs.Refusals as plain
+use Rattle.plain.specs.Histories.{run, quantity}
+use Rattle.book.specs.View.{view, Valid, numberOf, quantityOf}
 use Rattle.replay.specs.declared.Replayed.{Replayed}
 
 -- the refusals 1 to 4 of the register, then 5 to 7 of the file, all before any event is played
@@ -25,9 +33,44 @@ replayRefusal register file =
 abbrev pub callsOf : List Event → List Call
 callsOf events = map (λ e. call e 1024) events
 
+-- what is answered before any event is played: the refusal, or 0; the new book of the register that was read, which calls take where nothing is refused
+pub record ReadyFor (register file : List ℕ) (r : Replayed) : Type 0 where
+  pub number : r .number ≡ replayRefusal register file
+  pub book : view (r .book) ≡ new (registerRead register .register)
+  pub valid : r .number ≡ 0 → Valid (r .book)
+
 -- what replaying answers: the refusal, or 0; the new book after all events of the file, or after none where something is refused;
 -- and a book that further calls take, where nothing is
 pub record ReplayedFrom (register file : List ℕ) (r : Replayed) : Type 0 where
   pub number : r .number ≡ replayRefusal register file
   pub book : view (r .book) ≡ run (new (registerRead register .register)) (accepted (r .number) (callsOf (eventsOf file)) [])
   pub valid : r .number ≡ 0 → Valid (r .book)
+
+-- a close as a call: it has no use for a sheet
+abbrev pub closing : Call
+closing = call event.Close 0
+
+-- what the last of some events answers, on a book that made so many closes and then all events before the last with sheets of 1,024 places
+abbrev pub lastCall : List Event → ℕ → Call
+lastCall events sheet = call (getD events (length events - 1) event.Close) sheet
+
+abbrev pub beforeLast : Book → ℕ → List Event → Book
+beforeLast b closes events = run (run b (replicate closes closing)) (callsOf (take (length events - 1) events))
+
+pub record LastAnswered (b : Book) (closes : ℕ) (events : List Event) (sheet : ℕ) (o : Outcome) : Type 0 where
+  pub number : numberOf o ≡ only (ltb 0 (length events)) (plain.refusal (beforeLast b closes events) (lastCall events sheet))
+  pub quantity : quantityOf o ≡ only (ltb 0 (length events)) (quantity (beforeLast b closes events) (lastCall events sheet))
+
+-- a number that refuses where it is not 0 decides
+pub deciding : (n : ℕ) → n ≡ first ((nonzero n ⇒ n) ∷ [])
+deciding zero = refl
+deciding (suc n) = rw (ne-eqb (suc n) 0 (λ z. omega arith))
+
+-- where neither is refused, the file is not
+second-zero : (a b : ℕ) → first ((nonzero a ⇒ a) ∷ (nonzero b ⇒ b) ∷ []) ≡ 0 → b ≡ 0
+second-zero zero b e = deciding b ∙ e
+second-zero (suc a) b e = absurd (omega (arith, rw (ne-eqb (suc a) 0 (λ z. omega arith)) at e))
+
+pub passing-file : (register file : List ℕ) → replayRefusal register file ≡ 0 → refusal file ≡ 0
+unfolding replayRefusal
+passing-file register file e = second-zero (registerRead register .number) (refusal file) e

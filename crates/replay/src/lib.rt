@@ -1,10 +1,13 @@
 // A file of events played on a new book. Document 01, 'Event files and the player'.
+ghost use Prim.Native.Nat.{_≤_};
 ghost use mathlib.Core.Path.{_≡_};
+ghost use lib.ListN.{length, take, replicate};
 ghost use Rattle.events.specs.File.{eventsOf, refusal};
 ghost use Rattle.plain.specs.Histories.{run};
 ghost use Rattle.book.specs.View.{view, Valid};
-ghost use Rattle.replay.specs.Replay.{ReplayedFrom, callsOf};
+ghost use Rattle.replay.specs.Replay.{ReadyFor, ReplayedFrom, callsOf, closing, LastAnswered};
 use book::Book;
+use plain::Outcome;
 
 // What replaying answers: a refusal number, or 0, and the book after the last event.
 pub struct Replayed {
@@ -15,15 +18,14 @@ pub struct Replayed {
 // The longest sheet: a call's pieces always fit it.
 const SHEET: usize = 1024;
 
-// The book after all events of a file that passes.
-fn play(book: Book, file: &[u8]) -> Book
-    requires { ⌜ (Valid book) × (refusal (now file) ≡ 0) ⌝ }
-    ensures { λ r. ⌜ (view r ≡ run (view book) (callsOf (eventsOf (now (file .entry))))) × (Valid r) ⌝ }
+// The book after the first `stop` events of a file.
+fn play(book: Book, file: &[u8], stop: usize) -> Book
+    requires { ⌜ (Valid book) × (stop ≤ length (eventsOf (now file))) ⌝ }
+    ensures { λ r. ⌜ (view r ≡ run (view book) (callsOf (take stop (eventsOf (now (file .entry)))))) × (Valid r) ⌝ }
 {
-    let count = events::event_count(file) as usize;
     let mut played = book;
     let mut i: usize = 0;
-    while i < count {
+    while i < stop {
         let event = events::event_at(file, i);
         let stepped = book::step(played, SHEET, event);
         let next = stepped.book;
@@ -33,9 +35,9 @@ fn play(book: Book, file: &[u8]) -> Book
     played
 }
 
-// A book is opened on the register and the file is played on it. Nothing is played where either is refused.
-pub fn replay(register: &[u8], file: &[u8]) -> Replayed
-    ensures { λ r. ⌜ ReplayedFrom (now (register .entry)) (now (file .entry)) r ⌝ }
+// A book is opened on the register, and the file is checked. No event is played.
+pub fn ready(register: &[u8], file: &[u8]) -> Replayed
+    ensures { λ r. ⌜ ReadyFor (now (register .entry)) (now (file .entry)) r ⌝ }
 {
     let opened = book::open_book(register);
     let book = opened.book;
@@ -47,12 +49,56 @@ pub fn replay(register: &[u8], file: &[u8]) -> Replayed
         };
     }
     let number = events::file_refusal(file);
+    Replayed { number, book }
+}
+
+// The file is played on a book that is opened on the register. Nothing is played where either is refused.
+pub fn replay(register: &[u8], file: &[u8]) -> Replayed
+    ensures { λ r. ⌜ ReplayedFrom (now (register .entry)) (now (file .entry)) r ⌝ }
+{
+    let opened = ready(register, file);
+    let book = opened.book;
+    let number = opened.number;
     if number != 0 {
         return Replayed { number, book };
     }
-    let after = play(book, file);
+    let count = events::event_count(file) as usize;
+    let after = play(book, file, count);
     Replayed {
         number: 0,
         book: after,
     }
+}
+
+// The book after so many closes, the refused ones included.
+fn closed(book: Book, closes: u32) -> Book
+    requires { ⌜ Valid book ⌝ }
+    ensures { λ r. ⌜ (view r ≡ run (view book) (replicate closes closing)) × (Valid r) ⌝ }
+{
+    let mut after = book;
+    let mut left = closes;
+    while 0 < left {
+        let answered = book::close(after);
+        let next = answered.book;
+        after = next;
+        left -= 1;
+    }
+    after
+}
+
+// What the last event of a file answers on a book that was closed so many times and then played the events before it, where
+// the last event's sheet has so many places. A file without events answers 0.
+pub fn last_answer(book: Book, closes: u32, file: &[u8], sheet: usize) -> Outcome
+    requires { ⌜ (Valid book) × (refusal (now file) ≡ 0) ⌝ }
+    ensures { λ r. ⌜ LastAnswered (view book) closes (eventsOf (now (file .entry))) sheet r ⌝ }
+{
+    let count = events::event_count(file) as usize;
+    if count == 0 {
+        return Outcome::Done(0);
+    }
+    let later = closed(book, closes);
+    let before = play(later, file, count - 1);
+    let event = events::event_at(file, count - 1);
+    let stepped = book::step(before, sheet, event);
+    stepped.outcome
 }

@@ -2,32 +2,26 @@
 use Prim.Native.Nat.{_-_}
 use native.Mathlib.Omega.{arith}
 use mathlib.Core.Path.{_≡_, refl, sym, _∙_}
+use lib.ListN.{take}
+use lib.Seq.{length-take-le, getD-take}
 use denote.Ref.{now}
 use Rattle.events.specs.declared.Event.the-variants as event
 use Rattle.events.specs.File.{eventsOf}
-use Rattle.events.specs.Passing.{passing, events-counted}
 use Rattle.book.specs.View.{view, Valid}
 use Rattle.replay.proofs.Left.{finally, left-next, left-none}
-use borrow.Author.Needs.{needs}
 use Rattle.replay.proofs.play.Statement.{statement}
 use Rattle.replay.proofs.play.Tie as tie
 
 abbrev Inv-loop : tie.InvT-loop
-Inv-loop file count played₀ i₀ played i =
+Inv-loop file stop played₀ i₀ played i =
     (Valid played)
-    × (finally (view played) (eventsOf file) i ≡ finally (view played₀) (eventsOf file) 0)
+    × (finally (view played) (take stop (eventsOf file)) i ≡ finally (view played₀) (take stop (eventsOf file)) 0)
 
 abbrev μ-loop : tie.MeasureT-loop
-μ-loop file count played₀ i₀ played i = count - i
-
-event-count-requires : tie.Need-event-count-requires Inv-loop μ-loop
-event-count-requires c κs = tt
-
-cast-count : tie.Need-cast-count Inv-loop μ-loop
-cast-count c = search needs
+μ-loop file stop played₀ i₀ played i = stop - i
 
 loop-holds : tie.Need-loop-holds Inv-loop μ-loop
-loop-holds c = (c .before .before .pre .0, refl)
+loop-holds c = (c .before .pre .0, refl)
 
 event-at-requires : tie.Need-event-at-requires Inv-loop μ-loop
 event-at-requires c κs = tt
@@ -44,22 +38,24 @@ loop-less c = omega arith
 loop-again : tie.Need-loop-again Inv-loop μ-loop
 loop-again c =
     let k = c .before .before .before .before in
-    let start = k .before .before .before in
-    let file = now (start .args .file) in
-    let counted = events-counted file (passing file (start .pre .1) .long) in
+    let start = k .before .before in
+    let events = eventsOf (now (start .args .file)) in
+    let stop = start .args .stop in
+    let within = c .before .before .before .loop-test .taken in
+    let long = length-take-le stop events (start .pre .1) in
     let r = c .before .step .ensures .returned in (
       r .valid,
-      left-next (view (k .loop .played)) _ (eventsOf file) (k .loop .i) event.Close _ (omega (arith, counted, k .before .event-count .ensures, c .before .before .before .loop-test .taken)) (c .before .before .event-at .ensures) (r .book)
+      left-next (view (k .loop .played)) _ (take stop events) (k .loop .i) event.Close _ (omega (arith, long, within)) (c .before .before .event-at .ensures ∙ sym (getD-take stop events (k .loop .i) event.Close within)) (r .book)
           ∙ k .loop .inv .1,
     )
 
 returns : tie.Need-returns Inv-loop μ-loop
 returns c =
     let k = c .before in
-    let start = k .before .before .before in
-    let file = now (start .args .file) in
-    let counted = events-counted file (passing file (start .pre .1) .long) in (
-      sym (left-none (view (k .loop .played)) (eventsOf file) (k .loop .i) (omega (arith, counted, k .before .event-count .ensures, c .loop-test .left)))
+    let start = k .before .before in
+    let events = eventsOf (now (start .args .file)) in
+    let stop = start .args .stop in (
+      sym (left-none (view (k .loop .played)) (take stop events) (k .loop .i) (omega (arith, length-take-le stop events (start .pre .1), c .loop-test .left)))
           ∙ k .loop .inv .1,
       k .loop .inv .0,
     )
@@ -70,8 +66,6 @@ play-spec =
     (tie.spec
     Inv-loop
     μ-loop
-    event-count-requires
-    cast-count
     loop-holds
     event-at-requires
     step-requires

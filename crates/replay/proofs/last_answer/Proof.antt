@@ -1,0 +1,89 @@
+-- `replay::last_answer` meets its contract.
+use Prim.Native.Nat.{ℕ, _-_, _<_}
+use native.Mathlib.Omega.{arith}
+use mathlib.Core.Path.{_≡_, _∙_, ap}
+use mathlib.Core.List.{List}
+use lib.ListN.{length, getD, take, replicate}
+use denote.Ref.{now}
+use Rattle.events.specs.declared.Event.{Event}
+use Rattle.events.specs.declared.Event.the-variants as event
+use Rattle.events.specs.File.{eventsOf, count}
+use Rattle.events.specs.Passing.{passing, events-counted}
+use Rattle.plain.specs.Book as plain
+use Rattle.plain.specs.Histories.{run}
+use Rattle.book.specs.View.{view}
+use Rattle.replay.specs.Replay.{callsOf, closing}
+use Rattle.replay.proofs.Answers.{last-none, last-some}
+use borrow.Author.Needs.{needs}
+use Rattle.replay.proofs.last_answer.Statement.{statement}
+use Rattle.replay.proofs.last_answer.Tie as tie
+
+event-count-requires : tie.Need-event-count-requires
+event-count-requires c κs = search needs
+
+cast-count : tie.Need-cast-count
+cast-count c = search needs
+
+returns : tie.Need-returns
+returns c =
+    let k = c .before in
+    let start = k .before .before in
+    let file = now (start .args .file) in
+    let long = events-counted file (passing file (start .pre .1) .long) in
+    last-none (view (start .args .book)) (start .args .closes) (eventsOf file) (start .args .sheet) (omega (arith, long, k .event-count .ensures, c .if1 .taken))
+
+closed-requires : tie.Need-closed-requires
+closed-requires c κs = search needs
+
+sub-play : tie.Need-sub-play
+sub-play c = search needs
+
+play-requires : tie.Need-play-requires
+play-requires c κs =
+    let k = c .before .before in
+    let start = k .before .before in
+    let file = now (start .args .file) in
+    let long = events-counted file (passing file (start .pre .1) .long) in
+    (c .closed .ensures .1, omega (arith, long, k .event-count .ensures))
+
+sub-event-at : tie.Need-sub-event-at
+sub-event-at c = search needs
+
+event-at-requires : tie.Need-event-at-requires
+event-at-requires c κs = search needs
+
+step-requires : tie.Need-step-requires
+step-requires c κs = search needs
+
+returns-2 : tie.Need-returns-2
+returns-2 c =
+    let e = c .before in
+    let p = e .before in
+    let k = p .before .before .before in
+    let start = k .before .before in
+    let file = now (start .args .file) in
+    let events = eventsOf file in
+    let long = events-counted file (passing file (start .pre .1) .long) in
+    let last : k .event-count .result - 1 ≡ length events - 1 = omega (arith, long, k .event-count .ensures) in
+    let some : 0 < length events = omega (arith, long, k .event-count .ensures, p .before .before .if1 .left) in
+    let r = c .step .ensures .returned in
+    last-some (view (start .args .book)) (start .args .closes) events (start .args .sheet) some (c .step .result .outcome) (view (p .play .result)) (e .event-at .result)
+    (p .play .ensures .0 ∙ ap (λ (b : plain.Book). run b (callsOf (take (k .event-count .result - 1) events))) (p .before .closed .ensures .0) ∙ ap (λ (n : ℕ). run (run (view (start .args .book)) (replicate (start .args .closes) closing)) (callsOf (take n events))) last)
+    (e .event-at .ensures ∙ ap (λ (n : ℕ). getD events n event.Close) last)
+    (r .number)
+    (r .quantity)
+
+pub last-answer-spec : {M : Type 1} → statement M
+last-answer-spec =
+    tie.close
+    (tie.spec
+    event-count-requires
+    cast-count
+    returns
+    closed-requires
+    sub-play
+    play-requires
+    sub-event-at
+    event-at-requires
+    step-requires
+    returns-2)

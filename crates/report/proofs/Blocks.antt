@@ -1,0 +1,103 @@
+-- Texts of the elements of a list, written one after the other.
+use Prim.Native.Nat.{ℕ, zero, suc, _+_, _-_, _*_, _≤_, _<_, min}
+use native.Mathlib.Numerals.{add-one}
+use native.Mathlib.Omega.{arith}
+use mathlib.Core.Path.{_≡_, refl, ap, sym, _∙_, subst}
+use mathlib.Core.List.{List, [], _∷_, _++_, append-nil}
+use lib.ListN.{length, getD, take, drop, length-append, take-append-drop}
+use lib.Seq.{take-suc, take-take, take-all, getD-take, length-take-le}
+use lib.Dec.{ltb}
+use borrow.Author.Tests.{ltb-true, ltb-false}
+use Rattle.laws.specs.Asked.{Said, passed, failed, ask}
+use Rattle.laws.specs.Lists.{each, range}
+use Rattle.laws.specs.Listed.{each-append, length-range, getD-range}
+use Rattle.plain.specs.declared.Position.{Position}
+use Rattle.plain.specs.Book.{nth, noPosition}
+use Rattle.tables.specs.declared.Positions.{Positions}
+use Rattle.tables.specs.Tables.{PositionsFit, positions}
+use Rattle.report.specs.Lines.{positionLine, positionLines}
+use Rattle.report.specs.Pages.{Put, Wrote, lent, back, put-lent, put-length, wrote-lent}
+
+module _ {A : Type 0} (f : A → List ℕ) (xs : List A) (d : A) where
+  -- the texts with one more
+  pub each-next : (i : ℕ) → i < length xs → each f (take (i + 1) xs) ≡ each f (take i xs) ++ f (getD xs i d)
+  each-next i h =
+      ap (λ (k : ℕ). each f (take k xs)) (add-one i) ∙ ap (each f) (take-suc xs i d h) ∙ each-append f (take i xs) (getD xs i d ∷ [])
+      ∙ ap (λ (l : List ℕ). each f (take i xs) ++ l) (append-nil (f (getD xs i d)))
+
+  -- fewer are no longer
+  pub each-shorter : (i n : ℕ) → i ≤ n → length (each f (take i xs)) ≤ length (each f (take n xs))
+  each-shorter i n h =
+      let cut : each f (take n xs) ≡ each f (take i xs) ++ each f (drop i (take n xs)) =
+      ap (each f) (sym (take-append-drop i (take n xs)) ∙ ap (λ (l : List A). l ++ drop i (take n xs)) (take-take i n xs h)) ∙ each-append f (take i xs) (drop i (take n xs)) in
+      omega (arith, ap length cut, length-append (each f (take i xs)) (each f (drop i (take n xs))))
+
+  -- there is room for one more
+  pub each-room : (i n : ℕ) → i < n → i < length xs → length (each f (take i xs)) + length (f (getD xs i d)) ≤ length (each f (take n xs))
+  each-room i n h l =
+      omega (arith, each-shorter (i + 1) n (omega arith), ap length (each-next i l), length-append (each f (take i xs)) (f (getD xs i d)))
+
+  -- one more is put after the others
+  pub put-next : (entry page part : List ℕ) (at m i : ℕ) → i < length xs → Put (each f (take i xs)) entry page at → Put (f (getD xs i d)) (lent at page) part m
+      → Put (each f (take (i + 1) xs)) entry (back at page part) (at + m)
+  put-next entry page part at m i h w v =
+      subst (λ (l : List ℕ). Put l entry (back at page part) (at + m)) (sym (each-next i h))
+      (put-lent (each f (take i xs)) entry page at w (f (getD xs i d)) part m v)
+
+  -- the same of a call that writes it, into a page with room for n lines
+  pub wrote-next : (entry page part : List ℕ) (at m i n : ℕ) → i < n → i < length xs → 80 * n ≤ length entry → at ≤ 80 * i → Put (each f (take i xs)) entry page at
+      → Wrote 80 (f (getD xs i d)) (lent at page) part m → Put (each f (take (i + 1) xs)) entry (back at page part) (at + m)
+  wrote-next entry page part at m i n h l room low w v =
+      subst (λ (t : List ℕ). Put t entry (back at page part) (at + m)) (sym (each-next i l))
+      (wrote-lent (each f (take i xs)) entry page at w 80 (f (getD xs i d)) part m (omega (arith, put-length (each f (take i xs)) entry page at w (omega arith))) v)
+
+-- the page of a loop keeps its length
+pub kept-length : (text entry page : List ℕ) (at : ℕ) → Put text entry page at → length text ≤ length entry → length page ≡ length entry
+kept-length text entry page at w h = put-length text entry page at w (omega (arith, w .bytes))
+
+-- a page with room for n lines has room for another one after fewer than n
+pub room : (text entry page : List ℕ) (at i n : ℕ) → Put text entry page at → at ≤ 80 * i → i < n → 80 * n ≤ length entry → at + 80 ≤ length page
+room text entry page at i n w low h enough = omega (arith, kept-length text entry page at w (omega (arith, w .bytes)))
+
+-- no more are taken than there are
+pub take-min : {A : Type 0} (xs : List A) (n m : ℕ) → length xs ≡ m → take (min n m) xs ≡ take n xs
+take-min xs n m e = go (ask (ltb m n))
+  where
+    go : Said (ltb m n) → take (min n m) xs ≡ take n xs
+    go (passed l) =
+        let more : m < n = ltb-true m n l in
+        take-all (min n m) xs (omega arith) ∙ sym (take-all n xs (omega arith))
+    go (failed l) =
+        let few : n ≤ m = ltb-false m n l in
+        ap (λ (k : ℕ). take k xs) (let same : min n m ≡ n = omega arith in same)
+
+-- a whole range is taken
+pub take-range : (a n : ℕ) → take n (range a n) ≡ range a n
+take-range a n = take-all n (range a n) (omega (arith, length-range a n))
+
+-- what stands at a place is there whatever is said of the places past the end
+getD-any : {A : Type 0} (xs : List A) (i : ℕ) (d e : A) → i < length xs → getD xs i d ≡ getD xs i e
+getD-any [] i d e h = absurd (omega arith)
+getD-any (x ∷ xs) zero d e h = refl
+getD-any (x ∷ xs) (suc i) d e h = getD-any xs i d e (omega arith)
+
+-- ---- positions by their numbers
+
+-- the line of position number n
+abbrev pub positionText : List Position → ℕ → List ℕ
+positionText ps n = positionLine n (nth noPosition ps n)
+
+-- the position at an index, counted from 0, and its line
+pub position-here : (table : Positions) (i : ℕ) (d : Position) → PositionsFit table → i < table .count → positionLine (i + 1) (getD (table .items) i d) ≡ positionText (positions table) (getD (range 1 (table .count)) i 0)
+unfolding positions
+position-here table i d fit h =
+    let n : getD (range 1 (table .count)) i 0 ≡ i + 1 = getD-range 1 (table .count) i 0 h ∙ omega arith in
+    let j : i + 1 - 1 ≡ i = omega arith in
+    let p : getD (table .items) i d ≡ nth noPosition (take (table .count) (table .items)) (i + 1) =
+    getD-any (table .items) i d noPosition (omega (arith, fit .places, fit .held)) ∙ sym (getD-take (table .count) (table .items) i noPosition h) ∙ ap (λ (k : ℕ). getD (take (table .count) (table .items)) k noPosition) (sym j) in
+    ap (positionLine (i + 1)) p ∙ ap (positionText (take (table .count) (table .items))) (sym n)
+
+pub positions-all : (table : Positions) → PositionsFit table → each (positionText (positions table)) (take (table .count) (range 1 (table .count))) ≡ positionLines (positions table)
+unfolding positions positionLines
+positions-all table fit =
+    ap (each (positionText (positions table))) (take-range 1 (table .count) ∙ ap (range 1) (sym (length-take-le (table .count) (table .items) (omega (arith, fit .places, fit .held)))))

@@ -1,0 +1,4 @@
+pub mod Stored
+pub mod Blocks
+pub mod Amounts
+pub mod Texts

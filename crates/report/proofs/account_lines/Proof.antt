@@ -1,0 +1,130 @@
+-- `report::account_lines` meets its contract. The invariant: the lines of the accounts passed are put, in at most 80 bytes each.
+use native.Mathlib.Omega.{arith}
+use Prim.Native.Nat.{_+_, _-_, _*_, _≤_, _<_}
+use mathlib.Core.Path.{_≡_, ap}
+use lib.ListN.{length, take, getD}
+use Rattle.laws.specs.Lists.{each}
+use Rattle.report.specs.Pages.{Put, put-none, none-wrote, put-wrote, put-text, wrote-text}
+use Rattle.report.proofs.Blocks.{kept-length, room, wrote-next}
+use Rattle.report.specs.Lines.{LINE, accounts, accountLines}
+use Rattle.report.proofs.Amounts.{accountText, account-count, account-here, accounts-all}
+use Rattle.report.proofs.account_lines.Statement.{statement}
+use Rattle.report.proofs.account_lines.Tie as tie
+
+abbrev Inv-loop : tie.InvT-loop
+Inv-loop page₀ ledger at₀ k₀ page at k = (k ≤ 64) × (at ≤ 80 * k) × Put (each (accountText ledger) (take k accounts)) page₀ page at
+
+abbrev μ-loop : tie.MeasureT-loop
+μ-loop page₀ ledger at₀ k₀ page at k = 64 - k
+
+mul-if1 : tie.Need-mul-if1 Inv-loop μ-loop
+mul-if1 c = omega arith
+
+returns : tie.Need-returns Inv-loop μ-loop
+returns c =
+    let a = c .before .before .args in
+    none-wrote (LINE * 64) (accountLines (a .t2)) (a .page .now) (c .if1 .taken)
+
+loop-holds : tie.Need-loop-holds Inv-loop μ-loop
+loop-holds c = (omega arith, omega arith, put-none _)
+
+mul-credit : tie.Need-mul-credit Inv-loop μ-loop
+mul-credit c = omega arith
+
+element-copy-out-credit : tie.Need-element-copy-out-credit Inv-loop μ-loop
+element-copy-out-credit c = omega arith
+
+mul-debit : tie.Need-mul-debit Inv-loop μ-loop
+mul-debit c = omega arith
+
+element-copy-out-debit : tie.Need-element-copy-out-debit Inv-loop μ-loop
+element-copy-out-debit c = omega arith
+
+-- the next line has room where the others end
+free : (c : tie.In-loop Inv-loop μ-loop) → c .before .loop .at + 80 ≤ length (c .before .loop .page)
+free c =
+    let k = c .before .loop in
+    let e = c .before .before in
+    let a = e .before .before .args in
+    room (each (accountText (a .t2)) (take (k .k) accounts)) (a .page .now) (k .page) (k .at) (k .k) 64 (k .inv .2) (k .inv .1) (c .loop-test .taken) (e .if1 .left)
+
+sub-balance-line : tie.Need-sub-balance-line Inv-loop μ-loop
+sub-balance-line c = omega (arith, free (c .before .before))
+
+part-balance-line-start : tie.Need-part-balance-line-start Inv-loop μ-loop
+part-balance-line-start c = omega (arith, free (c .before .before))
+
+part-balance-line-end : tie.Need-part-balance-line-end Inv-loop μ-loop
+part-balance-line-end c = omega arith
+
+cast-balance-line : tie.Need-cast-balance-line Inv-loop μ-loop
+cast-balance-line c = omega arith
+
+balance-line-requires : tie.Need-balance-line-requires Inv-loop μ-loop
+balance-line-requires c κs = tt
+
+add-at : tie.Need-add-at Inv-loop μ-loop
+add-at c = omega (arith, c .before .before .balance-line .ensures .most)
+
+add-k : tie.Need-add-k Inv-loop μ-loop
+add-k c = omega arith
+
+loop-less : tie.Need-loop-less Inv-loop μ-loop
+loop-less c = omega arith
+
+loop-again : tie.Need-loop-again Inv-loop μ-loop
+loop-again c =
+    let n = c .before .before .before .before .before .before in
+    let k = n .before .loop in
+    let e = n .before .before in
+    let a = e .before .before .args in
+    let d = c .before .before .balance-line in
+    let i : k .k < length accounts = omega (arith, account-count, n .loop-test .taken) in (
+      omega arith,
+      omega (arith, d .ensures .most),
+      wrote-next (accountText (a .t2)) accounts 0 (a .page .now) (k .page) (d .last .0) (k .at) (d .result) (k .k) 64 (n .loop-test .taken) i (e .if1 .left) (k .inv .1) (k .inv .2)
+          (wrote-text 80 _ (accountText (a .t2) (getD accounts (k .k) 0)) _ (d .last .0) (d .result) (account-here (a .t2) (k .k) (n .loop-test .taken)) (d .ensures)),
+    )
+
+-- the page keeps its length
+same : (c : tie.After-loop Inv-loop μ-loop) → length (c .before .loop .page) ≡ length (c .before .before .before .before .args .page .now)
+same c =
+    let k = c .before .loop in
+    let a = c .before .before .before .before .args in
+    kept-length (each (accountText (a .t2)) (take (k .k) accounts)) (a .page .now) (k .page) (k .at) (k .inv .2) (omega (arith, k .inv .2 .bytes))
+
+same-length : tie.Need-same-length Inv-loop μ-loop
+same-length c = same c
+
+returns-2 : tie.Need-returns-2 Inv-loop μ-loop
+returns-2 c =
+    let k = c .before .loop in
+    let e = c .before .before in
+    let a = e .before .before .args in
+    let text : each (accountText (a .t2)) (take (k .k) accounts) ≡ accountLines (a .t2) = accounts-all (a .t2) (k .k) (c .loop-test .left) in
+    put-wrote (80 * 64) (accountLines (a .t2)) (a .page .now) (k .page) (k .at) (e .if1 .left) (omega (arith, ap length text, k .inv .2 .bytes)) (put-text _ (accountLines (a .t2)) (a .page .now) (k .page) (k .at) text (k .inv .2))
+
+pub account-lines-spec : {M : Type 1} → statement M
+account-lines-spec =
+    tie.close
+    (tie.spec
+    Inv-loop
+    μ-loop
+    mul-if1
+    returns
+    loop-holds
+    mul-credit
+    element-copy-out-credit
+    mul-debit
+    element-copy-out-debit
+    sub-balance-line
+    part-balance-line-start
+    part-balance-line-end
+    cast-balance-line
+    balance-line-requires
+    add-at
+    add-k
+    loop-less
+    loop-again
+    same-length
+    returns-2)

@@ -1,0 +1,298 @@
+// The lines that the player prints, written into the first bytes of a page that the caller lends.
+// Document 01, 'Event files and the player'.
+
+ghost use mathlib.Core.Path.{_≡_};
+ghost use mathlib.Core.List.{_∷_, [], _++_};
+ghost use Prim.Native.Nat.{_+_, _*_, _≤_, min};
+ghost use lib.IntN.{subℕ};
+ghost use lib.ListN.{length, take};
+ghost use Rattle.tables.specs.Tables.{PositionsFit, positions};
+ghost use Rattle.report.specs.Digits.{digits};
+ghost use Rattle.report.specs.Lines.{LINE, accountLine, accountLines, amount, balanceText, eventLine, eventLines, field, number, numbers, pieceLine, pieceLines, positionLine, positionLines, refusalLine, side, signed};
+ghost use Rattle.report.specs.Pages.{Put, Wrote};
+use plain::Ledger;
+use plain::Piece;
+use plain::Position;
+use tables::Positions;
+
+// A page that a line is written into has at least as many bytes.
+const LINE: usize = 80;
+
+const BLANK: u8 = 32;
+
+const LINE_FEED: u8 = 10;
+
+const MINUS: u8 = 45;
+
+// How many digits a number has.
+fn digit_count(n: u64) -> usize
+    ensures { λ r. ⌜ r ≡ length (digits n) ⌝ }
+{
+    let mut left = n;
+    let mut count: usize = 1;
+    while 10 <= left {
+        left = left / 10;
+        count += 1;
+    }
+    count
+}
+
+// The digits of a number, from the last to the first.
+fn put_digits(page: &mut [u8], n: u64) -> usize
+    requires { ⌜ length (digits n) ≤ length (now page) ⌝ }
+    ensures { λ r. ⌜ Put (digits n) (now (page .entry)) (now (page .exit)) r ⌝ }
+{
+    let count = digit_count(n);
+    let mut left = n;
+    let mut at = count;
+    while 0 < at {
+        at -= 1;
+        page[at] = 48 + (left % 10) as u8;
+        left = left / 10;
+    }
+    count
+}
+
+// A number as a field: a blank and its digits.
+fn put_number(page: &mut [u8], n: u64) -> usize
+    requires { ⌜ length (number n) ≤ length (now page) ⌝ }
+    ensures { λ r. ⌜ Put (number n) (now (page .entry)) (now (page .exit)) r ⌝ }
+{
+    page[0] = BLANK;
+    1 + put_digits(&mut page[1..], n)
+}
+
+// The first `count` numbers, each as a field.
+fn put_numbers(page: &mut [u8], list: [u64; 5], count: usize) -> usize
+    requires { ⌜ (count ≤ 5) × (length (numbers (take count list)) ≤ length (now page)) ⌝ }
+    ensures { λ r. ⌜ Put (numbers (take count list)) (now (page .entry)) (now (page .exit)) r ⌝ }
+{
+    let mut at: usize = 0;
+    let mut i: usize = 0;
+    while i < count {
+        let n = list[i];
+        at += put_number(&mut page[at..], n);
+        i += 1;
+    }
+    at
+}
+
+// A letter, the first `count` numbers as fields, and a line feed.
+fn put_line(page: &mut [u8], letter: u8, list: [u64; 5], count: usize) -> usize
+    requires { ⌜ (count ≤ 5) × (length (numbers (take count list)) + 2 ≤ length (now page)) ⌝ }
+    ensures { λ r. ⌜ Put (letter ∷ (numbers (take count list) ++ (10 ∷ []))) (now (page .entry)) (now (page .exit)) r ⌝ }
+{
+    page[0] = letter;
+    let end = 1 + put_numbers(&mut page[1..], list, count);
+    page[end] = LINE_FEED;
+    end + 1
+}
+
+// An amount as a field: a blank, a minus sign if it is negative, and its digits.
+fn put_amount(page: &mut [u8], negative: bool, cents: u64) -> usize
+    requires { ⌜ length (field (signed (amount negative cents))) ≤ length (now page) ⌝ }
+    ensures { λ r. ⌜ Put (field (signed (amount negative cents))) (now (page .entry)) (now (page .exit)) r ⌝ }
+{
+    if !negative {
+        return put_number(page, cents);
+    }
+    if cents == 0 {
+        return put_number(page, cents);
+    }
+    page[0] = BLANK;
+    page[1] = MINUS;
+    2 + put_digits(&mut page[2..], cents)
+}
+
+// The line of an event, as the functions below write theirs: into the first bytes of the page, of which the later ones
+// are kept. A page of fewer than 80 bytes is left as it is. The answer is how many bytes were written.
+pub fn event_line(page: &mut [u8], number: u32, refusal: u8, quantity: u32) -> usize
+    ensures { λ r. ⌜ Wrote LINE (eventLine number refusal quantity) (now (page .entry)) (now (page .exit)) r ⌝ }
+{
+    if page.len() < LINE {
+        return 0;
+    }
+    put_line(
+        page,
+        b'e',
+        [number as u64, refusal as u64, quantity as u64, 0, 0],
+        3,
+    )
+}
+
+pub fn piece_line(page: &mut [u8], piece: Piece) -> usize
+    ensures { λ r. ⌜ Wrote LINE (pieceLine piece) (now (page .entry)) (now (page .exit)) r ⌝ }
+{
+    if page.len() < LINE {
+        return 0;
+    }
+    put_line(
+        page,
+        b'p',
+        [
+            piece.short as u64,
+            piece.long as u64,
+            piece.quantity as u64,
+            piece.cents,
+            0,
+        ],
+        4,
+    )
+}
+
+pub fn refusal_line(page: &mut [u8], number: u8) -> usize
+    ensures { λ r. ⌜ Wrote LINE (refusalLine number) (now (page .entry)) (now (page .exit)) r ⌝ }
+{
+    if page.len() < LINE {
+        return 0;
+    }
+    put_line(page, b'f', [number as u64, 0, 0, 0, 0], 1)
+}
+
+// D for a short, R for a long.
+fn side_of(short: bool) -> u8
+    ensures { λ r. ⌜ r ≡ side short ⌝ }
+{
+    if short { b'D' } else { b'R' }
+}
+
+pub fn position_line(page: &mut [u8], number: u16, position: Position) -> usize
+    ensures { λ r. ⌜ Wrote LINE (positionLine number position) (now (page .entry)) (now (page .exit)) r ⌝ }
+{
+    if page.len() < LINE {
+        return 0;
+    }
+    page[0] = b's';
+    let named = 1
+        + put_numbers(
+            &mut page[1..],
+            [number as u64, position.member as u64, 0, 0, 0],
+            2,
+        );
+    page[named] = BLANK;
+    let letter = named + 1;
+    page[letter] = side_of(position.short);
+    let from = named + 2;
+    let end = from
+        + put_numbers(
+            &mut page[from..],
+            [
+                position.netted as u64,
+                position.delivered as u64,
+                position.bought as u64,
+                position.cash as u64,
+                position.unsettled as u64,
+            ],
+            5,
+        );
+    page[end] = LINE_FEED;
+    end + 1
+}
+
+// The line of an account. Zero has no sign.
+pub fn account_line(page: &mut [u8], account: u8, negative: bool, cents: u64) -> usize
+    ensures { λ r. ⌜ Wrote LINE (accountLine account (amount negative cents)) (now (page .entry)) (now (page .exit)) r ⌝ }
+{
+    if page.len() < LINE {
+        return 0;
+    }
+    page[0] = b'a';
+    let named = 1 + put_number(&mut page[1..], account as u64);
+    let end = named + put_amount(&mut page[named..], negative, cents);
+    page[end] = LINE_FEED;
+    end + 1
+}
+
+// No more than the 1,024 pieces that there are.
+fn at_most(count: usize) -> usize
+    ensures { λ r. ⌜ r ≡ min count 1024 ⌝ }
+{
+    if 1024 < count { 1024 } else { count }
+}
+
+// The lines of the first `count` pieces, of all 1,024 if `count` is more. The page has at least 80 bytes for each.
+pub fn piece_lines(page: &mut [u8], pieces: [Piece; 1024], count: usize) -> usize
+    ensures { λ r. ⌜ Wrote (LINE * min count 1024) (pieceLines (take count pieces)) (now (page .entry)) (now (page .exit)) r ⌝ }
+{
+    let stop = at_most(count);
+    if page.len() < LINE * stop {
+        return 0;
+    }
+    let mut at: usize = 0;
+    let mut i: usize = 0;
+    while i < stop {
+        let piece = pieces[i];
+        at += piece_line(&mut page[at..], piece);
+        i += 1;
+    }
+    at
+}
+
+// The line of an event and those of its pieces. The page has at least 80 bytes for each line.
+pub fn event_lines(
+    page: &mut [u8],
+    number: u32,
+    refusal: u8,
+    quantity: u32,
+    pieces: [Piece; 1024],
+    count: usize,
+) -> usize
+    ensures { λ r. ⌜ Wrote (LINE * (1 + min count 1024)) (eventLines number refusal quantity (take count pieces)) (now (page .entry)) (now (page .exit)) r ⌝ }
+{
+    let stop = at_most(count);
+    if page.len() < LINE * (1 + stop) {
+        return 0;
+    }
+    let at = event_line(page, number, refusal, quantity);
+    at + piece_lines(&mut page[at..], pieces, count)
+}
+
+// The lines of all positions, by rising number from 1. The page has at least 80 bytes for each.
+pub fn position_lines(page: &mut [u8], table: Positions) -> usize
+    requires { ⌜ PositionsFit table ⌝ }
+    ensures { λ r. ⌜ Wrote (LINE * (table .count)) (positionLines (positions table)) (now (page .entry)) (now (page .exit)) r ⌝ }
+{
+    let count = table.count;
+    if page.len() < LINE * count {
+        return 0;
+    }
+    let mut at: usize = 0;
+    let mut i: usize = 0;
+    while i < count {
+        let position = table.items[i];
+        at += position_line(&mut page[at..], (i + 1) as u16, position);
+        i += 1;
+    }
+    at
+}
+
+// The line of an account by what it was credited and debited; none if that is the same.
+fn balance_line(page: &mut [u8], account: u8, credit: u64, debit: u64) -> usize
+    ensures { λ r. ⌜ Wrote LINE (balanceText account (subℕ credit debit)) (now (page .entry)) (now (page .exit)) r ⌝ }
+{
+    if credit < debit {
+        return account_line(page, account, true, debit - credit);
+    }
+    if debit < credit {
+        return account_line(page, account, false, credit - debit);
+    }
+    0
+}
+
+// The lines of the accounts that are not zero, by rising number. The page has at least 80 bytes for each of 64.
+pub fn account_lines(page: &mut [u8], ledger: Ledger) -> usize
+    ensures { λ r. ⌜ Wrote (LINE * 64) (accountLines ledger) (now (page .entry)) (now (page .exit)) r ⌝ }
+{
+    if page.len() < LINE * 64 {
+        return 0;
+    }
+    let mut at: usize = 0;
+    let mut k: usize = 0;
+    while k < 64 {
+        let credit = ledger.credits[k];
+        let debit = ledger.debits[k];
+        at += balance_line(&mut page[at..], k as u8, credit, debit);
+        k += 1;
+    }
+    at
+}

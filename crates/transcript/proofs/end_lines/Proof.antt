@@ -1,0 +1,83 @@
+-- `transcript::end_lines` meets its contract. The accounts' lines follow those of the positions.
+use Prim.Native.Nat.{_+_, _*_, _≤_}
+use native.Mathlib.Omega.{arith}
+use mathlib.Core.Path.{_≡_, ap, ap₂, sym, _∙_}
+use mathlib.Core.List.{List, _++_}
+use lib.ListN.{length}
+use denote.Ref.{now}
+use Rattle.tables.specs.Tables.{positions}
+use Rattle.book.specs.View.{view}
+use Rattle.report.specs.Lines.{LINE, positionLines, accountLines}
+use Rattle.report.specs.Pages.{none-wrote, put-wrote, put-text, wrote-put, wrote-lent, put-length}
+use Rattle.transcript.specs.Transcript.{endText}
+use Rattle.transcript.specs.Playing.{END}
+use borrow.Author.Needs.{needs}
+use Rattle.transcript.proofs.end_lines.Statement.{statement}
+use Rattle.transcript.proofs.end_lines.Tie as tie
+
+returns : tie.Need-returns
+returns c =
+    let a = c .before .before .args in
+    none-wrote END (endText (view (a .book))) (now (a .page)) (c .if1 .taken)
+
+position-table-requires : tie.Need-position-table-requires
+position-table-requires c κs = search needs
+
+position-lines-requires : tie.Need-position-lines-requires
+position-lines-requires c κs = search needs
+
+accounts-requires : tie.Need-accounts-requires
+accounts-requires c κs = search needs
+
+sub-account-lines : tie.Need-sub-account-lines
+sub-account-lines c = search needs
+
+part-account-lines-start : tie.Need-part-account-lines-start
+part-account-lines-start c = search needs
+
+part-account-lines-end : tie.Need-part-account-lines-end
+part-account-lines-end c = search needs
+
+account-lines-requires : tie.Need-account-lines-requires
+account-lines-requires c κs = search needs
+
+add-result : tie.Need-add-result
+add-result c = search needs
+
+same-length : tie.Need-same-length
+same-length c = search needs
+
+returns-2 : tie.Need-returns-2
+unfolding endText
+returns-2 c =
+    let d = c .before .before .account-lines in
+    let k = c .before .before .before .before in
+    let v = k .before .before .before .position-lines in
+    let t = k .before .before .before .before .before in
+    let start = t .before .before .before in
+    let page = now (start .args .page) in
+    let held = t .position-table .ensures .1 .held in
+    let enough : END ≤ length page = t .before .if1 .left in
+    let text = positionLines (positions (t .position-table .result)) in
+    let more = accountLines (k .accounts .result) in
+    let first = wrote-put _ text page (v .last .0) (v .result) (omega (arith, held)) (v .ensures) in
+    let long : length (v .last .0) ≡ length page = put-length text page (v .last .0) (v .result) first (omega (arith, v .ensures .most, held)) in
+    let all = wrote-lent text page (v .last .0) (v .result) first (LINE * 64) more (d .last .0) (d .result) (omega (arith, v .ensures .most, held)) (d .ensures) in
+    let same : text ++ more ≡ endText (view (start .args .book)) = ap₂ (λ (x y : List _). x ++ y) (ap positionLines (t .position-table .ensures .0)) (ap accountLines (k .accounts .ensures .0)) in
+    put-wrote END (endText (view (start .args .book))) page _ _ enough (omega (arith, all .bytes, ap length same, v .ensures .most, d .ensures .most, held)) (put-text _ _ page _ _ same all)
+
+pub end-lines-spec : {M : Type 1} → statement M
+end-lines-spec =
+    tie.close
+    (tie.spec
+    returns
+    position-table-requires
+    position-lines-requires
+    accounts-requires
+    sub-account-lines
+    part-account-lines-start
+    part-account-lines-end
+    account-lines-requires
+    add-result
+    same-length
+    returns-2)

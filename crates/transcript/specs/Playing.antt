@@ -1,0 +1,54 @@
+-- What the functions that write the transcript's blocks answer.
+use Prim.Native.Nat.{ℕ, suc, _+_, _-_, _*_, _≤_, _<_, min}
+use mathlib.Core.Path.{_≡_}
+use mathlib.Core.List.{List}
+use lib.ListN.{length, take, drop}
+use Rattle.events.specs.declared.Event.{Event}
+use Rattle.events.specs.File.{eventsOf}
+use Rattle.plain.specs.Calls.{call}
+use Rattle.plain.specs.Histories.{next, run}
+use Rattle.book.specs.declared.Book.{Book}
+use Rattle.book.specs.View.{view, Valid}
+use Rattle.replay.specs.Replay.{callsOf}
+use Rattle.report.specs.Lines.{LINE}
+use Rattle.report.specs.Pages.{Put}
+use Rattle.transcript.specs.declared.Started.{Started}
+use Rattle.transcript.specs.declared.Shown.{Shown}
+use Rattle.transcript.specs.declared.Played.{Played}
+use Rattle.transcript.specs.Transcript.{registerLength, eventText, eventsText, inputRefusal, opened}
+
+-- what is answered before the first event: the refusal, or 0; where the file begins; and the new book
+pub record StartedOn (input : List ℕ) (r : Started) : Type 0 where
+  pub number : r .number ≡ inputRefusal input
+  pub file : r .file ≡ min (registerLength input) (length input)
+  pub book : view (r .book) ≡ opened input
+  pub valid : r .number ≡ 0 → Valid (r .book)
+
+-- the most bytes that an event prints: its line, and those of 1,024 pieces
+abbrev pub BLOCK : ℕ
+BLOCK = LINE * 1025
+
+-- the bytes that a page has for the end's lines: 1,024 positions and 64 accounts
+abbrev pub END : ℕ
+END = LINE * 1088
+
+-- one event on a book: the book after it, and its text in the page's first bytes
+pub record ShownOn (b : Book) (e : Event) (number : ℕ) (entry exit : List ℕ) (r : Shown) : Type 0 where
+  pub text : Put (eventText (view b) number e) entry exit (r .used)
+  pub fits : r .used ≤ BLOCK
+  pub book : view (r .book) ≡ next (view b) (call e 1024)
+  pub valid : Valid (r .book)
+
+-- the events of a file from one place up to another
+abbrev pub between : List ℕ → ℕ → ℕ → List Event
+between file from to = take (to - from) (drop from (eventsOf file))
+
+-- Events of a file, played from a place on, while the page has room for one more. How many they are is left free (`next`): at least one, where there
+-- is one and the page has room for it. The book is the one after them, and the page's first bytes are their text.
+pub record PlayedOn (file : List ℕ) (b : Book) (from : ℕ) (entry exit : List ℕ) (r : Played) : Type 0 where
+  pub reached : (from ≤ r .next) × (r .next ≤ length (eventsOf file))
+  pub text : Put (eventsText (view b) (from + 1) (between file from (r .next))) entry exit (r .used)
+  pub fits : r .used ≤ length entry
+  pub book : view (r .book) ≡ run (view b) (callsOf (between file from (r .next)))
+  pub valid : Valid (r .book)
+  pub further : from < length (eventsOf file) → BLOCK ≤ length entry → from < r .next

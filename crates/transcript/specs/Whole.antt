@@ -1,0 +1,74 @@
+-- The pages that are printed one after the other are the transcript.
+use Prim.Native.Nat.{ℕ, zero, suc, _+_, _-_, _*_, _≤_, _<_}
+use native.Mathlib.Nat.{add-zero}
+use native.Mathlib.Omega.{arith}
+use mathlib.Core.Path.{_≡_, refl, ap, ap₂, sym, _∙_}
+use mathlib.Core.List.{List, [], _∷_, _++_, append-assoc}
+use lib.ListN.{length, take, drop, length-drop, drop-of-length-le}
+use lib.Seq.{length-take-le}
+use Rattle.laws.specs.Refusals.{accepted-zero, accepted-not}
+use Rattle.events.specs.declared.Event.{Event}
+use Rattle.events.specs.File.{eventsOf}
+use Rattle.plain.specs.Book as plain
+use Rattle.plain.specs.Histories.{run}
+use Rattle.book.specs.declared.Book.{Book}
+use Rattle.book.specs.View.{view}
+use Rattle.replay.specs.Replay.{callsOf}
+use Rattle.report.specs.Lines.{refusalLine}
+use Rattle.report.specs.Pages.{put-front}
+use Rattle.transcript.specs.declared.Started.{Started}
+use Rattle.transcript.specs.declared.Played.{Played}
+use Rattle.transcript.specs.Transcript.{fileIn, eventsIn, opened, inputRefusal, eventsText, endText, transcript}
+use Rattle.transcript.specs.Playing.{StartedOn, PlayedOn, between}
+use Rattle.transcript.specs.Texts.{rest-split, run-rest, text-append}
+
+-- What the program prints from the i-th event of a file on: the used bytes of each page that events were played into, and at the end the lines
+-- of the positions and accounts
+pub data Printed (file : List ℕ) : Book → ℕ → List ℕ → Type 0 where
+  finished : {b : Book} {i : ℕ} → length (eventsOf file) ≤ i → Printed file b i (endText (view b))
+  page : {b : Book} {i : ℕ} {entry exit rest : List ℕ} {r : Played} → PlayedOn file b i entry exit r → Printed file (r .book) (r .next) rest → Printed file b i (take (r .used) exit ++ rest)
+
+-- what is to be printed from the i-th of the events on
+abbrev left : List Event → plain.Book → ℕ → List ℕ
+left es b i = eventsText b (i + 1) (drop i es) ++ endText (run b (callsOf (drop i es)))
+
+none-left : (es : List Event) (b : plain.Book) (i : ℕ) → length es ≤ i → endText b ≡ left es b i
+unfolding eventsText run
+none-left es b i h = rw (drop-of-length-le es {i = i} h)
+
+module _ (es : List Event) (b : plain.Book) (i j : ℕ) (low : i ≤ j) (high : j ≤ length es) where
+  abbrev these : List Event
+  these = take (j - i) (drop i es)
+
+  some-left : eventsText b (i + 1) these ++ left es (run b (callsOf these)) j ≡ left es b i
+  some-left =
+      let after = run b (callsOf these) in
+      let number : i + 1 + length these ≡ j + 1 = omega (arith, length-take-le (j - i) (drop i es) (omega (arith, length-drop i es))) in
+      sym (append-assoc (eventsText b (i + 1) these) (eventsText after (j + 1) (drop j es)) (endText (run after (callsOf (drop j es)))))
+      ∙ ap₂ (λ (t u : List ℕ). t ++ u)
+      (ap (λ (k : ℕ). eventsText b (i + 1) these ++ eventsText after k (drop j es)) (sym number) ∙ sym (text-append b (i + 1) these (drop j es)) ∙ ap (eventsText b (i + 1)) (sym (rest-split es i j low)))
+      (ap endText (run-rest es i j low b))
+
+rest-printed : (file : List ℕ) {b : Book} {i : ℕ} {text : List ℕ} → Printed file b i text → text ≡ left (eventsOf file) (view b) i
+rest-printed file (finished {b = b} {i = i} h) = none-left (eventsOf file) (view b) i h
+rest-printed file (page {b = b} {i = i} {entry = entry} {exit = exit} {rest = rest} {r = r} p more) =
+    let es = eventsOf file in
+    ap₂ (λ (t u : List ℕ). t ++ u)
+    (put-front (eventsText (view b) (i + 1) (between file i (r .next))) entry exit (r .used) (p .text))
+    (rest-printed file more ∙ ap (λ (a : plain.Book). left es a (r .next)) (p .book))
+    ∙ some-left es (view b) i (r .next) (p .reached .0) (p .reached .1)
+
+-- an input that is not refused: what is printed is the transcript
+pub whole : (input : List ℕ) (r : Started) {text : List ℕ} → StartedOn input r → r .number ≡ 0 → Printed (fileIn input) (r .book) 0 text → text ≡ transcript input
+unfolding transcript
+whole input r s e p =
+    rest-printed (fileIn input) p
+    ∙ ap (λ (b : plain.Book). left (eventsIn input) b 0) (s .book)
+    ∙ sym (accepted-zero (inputRefusal input) (left (eventsIn input) (opened input) 0) (refusalLine (inputRefusal input)) (sym (s .number) ∙ e))
+
+-- a refused input: the line of its refusal is
+pub refused : (input : List ℕ) (r : Started) → StartedOn input r → (r .number ≡ 0 → ⊥) → refusalLine (r .number) ≡ transcript input
+unfolding transcript
+refused input r s n =
+    ap refusalLine (s .number)
+    ∙ sym (accepted-not (inputRefusal input) (left (eventsIn input) (opened input) 0) (refusalLine (inputRefusal input)) (λ z. n (s .number ∙ z)))
