@@ -1,44 +1,54 @@
-//! Prices, fees and fines, in cents.
+//! Prices, fees and fines, all in cents.
 
-/// Rounded half up; a divisor of 0 gives 0.
+const LEAST_CASH_FEE: u64 = 25_000;
+const GREATEST_CASH_FEE: u64 = 100_000;
+const LEAST_AWARD_FINE: u64 = 100_000;
+
+/// The quotient rounded half up; 0 where there is none.
 pub fn rounded(value: u64, divisor: u32) -> u64 {
-    let (value, divisor) = (i128::from(value), i128::from(divisor));
-    (2 * value + divisor).checked_div(2 * divisor).map_or(0, |quotient| quotient as u64)
+    let divisor = u64::from(divisor);
+    match (value.checked_div(divisor), value.checked_rem(divisor)) {
+        // Only a divisor above 1 leaves a rest, so the quotient can take one more.
+        (Some(quotient), Some(rest)) => quotient + u64::from(2 * rest >= divisor),
+        _ => 0,
+    }
 }
 
-/// The highest price that an offer may ask.
+/// The highest price an offer may have, by the latest price at the attempt.
 pub fn ceiling(class: u8, latest: u32) -> u64 {
     let latest = u64::from(latest);
     match class {
-        1 | 2 => latest * 2,
-        3 => latest * 103 / 100,
+        1 | 2 => 2 * latest,
+        3 => 103 * latest / 100,
         _ => 0,
     }
 }
 
-/// What one unit of a piece costs in a cash settlement.
+/// The price of one piece of a cash settlement.
 pub fn cash_price(class: u8, short_reference: u32, long_reference: u32, latest: u32) -> u64 {
     let latest = u64::from(latest);
     let raised = match class {
-        1 | 2 => latest * 2,
+        1 | 2 => 2 * latest,
         3 => latest + 300,
         _ => 0,
     };
-    [short_reference.into(), long_reference.into(), raised].into_iter().fold(0, u64::max)
+    raised.max(short_reference.into()).max(long_reference.into())
 }
 
 pub fn cash_fee(value: u64) -> u64 {
-    rounded(value, 40_000).clamp(25_000, 100_000)
+    rounded(value, 40_000).clamp(LEAST_CASH_FEE, GREATEST_CASH_FEE)
 }
 
+/// What an award that is not confirmed costs its offerer.
 pub fn award_fine(class: u8, value: u64) -> u64 {
     match class {
-        1 | 2 => rounded(value, 2_500).max(100_000),
-        3 => 100_000,
+        1 | 2 => rounded(value, 2_500).max(LEAST_AWARD_FINE),
+        3 => LEAST_AWARD_FINE,
         _ => 0,
     }
 }
 
+/// What a day of being late costs.
 pub fn late_fine(value: u64) -> u64 {
     rounded(value, 10_000)
 }

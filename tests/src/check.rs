@@ -53,7 +53,7 @@ impl Check {
     pub fn same<A: PartialEq + Debug>(&mut self, input: impl Fn() -> String, desk: A, second: A) {
         self.inputs += 1;
         if desk != second {
-            self.wrong(&input(), &[("desk", &desk), ("second", &second)]);
+            self.wrong(input, &[("desk", &desk), ("second", &second)]);
         }
     }
 
@@ -61,7 +61,7 @@ impl Check {
     pub fn known<A: PartialEq + Debug>(&mut self, input: impl Fn() -> String, desk: A, second: A, known: A) {
         self.inputs += 1;
         if desk != known || second != known {
-            self.wrong(&input(), &[("desk", &desk), ("second", &second), ("known", &known)]);
+            self.wrong(input, &[("desk", &desk), ("second", &second), ("known", &known)]);
         }
     }
 
@@ -78,15 +78,23 @@ impl Check {
         self.known(input, desk, second.into(), known);
     }
 
+    /// Wants the inputs to have reached a state.
+    pub fn reached(&mut self, state: &str, times: u64) {
+        self.inputs += 1;
+        if times == 0 {
+            self.wrong(|| state.to_string(), &[("times reached", &times)]);
+        }
+    }
+
     pub fn count(&mut self, answer: Answer) {
         *self.refusals.entry(answer.refusal).or_default() += 1;
     }
 
-    fn wrong(&mut self, input: &str, answers: &[(&str, &dyn Debug)]) {
+    fn wrong(&mut self, input: impl Fn() -> String, answers: &[(&str, &dyn Debug)]) {
         self.wrong += 1;
         if self.wrong <= MOST_SHOWN {
             println!("WRONG {}", self.name);
-            println!("  input: {input}");
+            println!("  input: {}", input());
             for (whose, answer) in answers {
                 println!("  {whose}: {answer:?}");
             }

@@ -3,6 +3,7 @@
 use crate::refusal::Refusal;
 
 mod library {
+    #[link(name = "desk", kind = "static")]
     extern "C" {
         pub fn fails_step(class: u8, r: u16) -> u8;
         pub fn fails_ceiling(class: u8, latest: u32) -> u64;
@@ -16,6 +17,7 @@ mod library {
         pub fn fails_date_to_day(opening: u32, holidays: *const u8, length: usize, date: u32) -> u64;
         pub fn fails_file(file: *const u8, length: usize) -> u64;
         pub fn fails_copy_file(file: *const u8, length: usize, page: *mut u8, page_length: usize) -> u64;
+        pub fn fails_last_call(input: *const u8, length: usize, closes: u32, sheet: u32) -> u64;
     }
 }
 
@@ -100,4 +102,10 @@ pub fn file(file: &[u8]) -> Answer {
 
 pub fn copy_file(file: &[u8], page: &mut [u8]) -> Answer {
     Answer::unpacked(unsafe { library::fails_copy_file(file.as_ptr(), file.len(), page.as_mut_ptr(), page.len()) })
+}
+
+/// The answer to the last call of the player's input, made with a sheet of so many places on a book that has first
+/// been closed so many times.
+pub fn last_call(input: &[u8], closes: u32, sheet: u32) -> Answer {
+    Answer::unpacked(unsafe { library::fails_last_call(input.as_ptr(), input.len(), closes, sheet) })
 }

@@ -5,6 +5,7 @@ use crate::refusal::Refusal;
 pub const MOST_EVENTS: usize = 2_048;
 pub const WIDTH: usize = 16;
 
+#[derive(Clone, Copy, Debug, PartialEq, Eq)]
 pub enum Event {
     Trade { security: u16, seller: u8, buyer: u8, quantity: u32, price: u32 },
     Price { security: u16, price: u32 },

@@ -1,20 +1,15 @@
-//! Compares the static library `desk` with a second implementation, written from document 01 and ISO 6166 in another style.
+//! Compares the static library `desk` and the player with a second implementation, written from document 01 and
+//! ISO 6166 in another style.
 //!
 //! An argument, if given, is the seed of the second round; else that round has a seed of its own in each run.
 
-mod calendar;
-mod charges;
 mod check;
 mod compare;
 mod desk;
-mod events;
-mod random;
-mod refusal;
-mod register;
-mod windows;
 
 use calendar::Calendar;
 use check::{Round, Tests};
+use second::{calendar, charges, events, histories, player, random, refusal, register, transcript, windows};
 use std::process::ExitCode;
 use std::time::{SystemTime, UNIX_EPOCH};
 
@@ -36,6 +31,9 @@ fn main() -> ExitCode {
     compare::calendar::exhaustive(&mut tests, &calendar);
     compare::register::exhaustive(&mut tests);
     compare::events::exhaustive(&mut tests);
+    compare::player::exhaustive(&mut tests);
+    compare::sheets::exhaustive(&mut tests);
+    compare::text::exhaustive(&mut tests);
     for seed in [FIXED_SEED, seed] {
         println!("seed {seed}");
         let mut round = Round { tests: &mut tests, seed };
@@ -43,6 +41,9 @@ fn main() -> ExitCode {
         compare::calendar::seeded(&mut round, &calendar);
         compare::register::seeded(&mut round);
         compare::events::seeded(&mut round);
+        compare::player::seeded(&mut round);
+        compare::sheets::seeded(&mut round);
+        compare::text::seeded(&mut round);
     }
 
     println!("{} passed, {} failed", tests.passed, tests.failed);

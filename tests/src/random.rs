@@ -46,6 +46,17 @@ impl Random {
         from[self.below(from.len())]
     }
 
+    /// A place of the list, each as often as its weight says.
+    pub fn weighted(&mut self, weights: &[usize]) -> usize {
+        let mut rest = self.below(weights.iter().sum());
+        let mut place = 0;
+        while rest >= weights[place] {
+            rest -= weights[place];
+            place += 1;
+        }
+        place
+    }
+
     pub fn byte(&mut self) -> u8 {
         self.word() as u8
     }

@@ -1,5 +1,6 @@
 //! The refusals of document 01, 'Why a call is turned down', by their numbers there.
 
+#[derive(Clone, Copy, Debug, PartialEq, Eq)]
 pub enum Refusal {
     RegisterSize = 1,
     Class = 2,
@@ -8,6 +9,25 @@ pub enum Refusal {
     FileSize = 5,
     Kind = 6,
     Spare = 7,
+    SheetSize = 8,
+    Member = 9,
+    Security = 10,
+    NotThere = 11,
+    Quantity = 12,
+    Price = 13,
+    SellerIsBuyer = 14,
+    TradesFull = 15,
+    Long = 16,
+    Window = 17,
+    Auction = 18,
+    NoPrice = 19,
+    Attempts = 20,
+    Failing = 21,
+    Ceiling = 22,
+    OffersFull = 23,
+    NotFree = 24,
+    Confirmed = 25,
+    LastDay = 26,
     Date = 27,
     Holidays = 28,
     BusinessDay = 29,

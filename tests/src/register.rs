@@ -51,3 +51,11 @@ pub fn weighted_sum(isin: &[u8; 12]) -> u32 {
         .map(|product| product / 10 + product % 10)
         .sum()
 }
+
+/// The bytes of a register with these entries, also where no reader takes them.
+pub fn bytes_of(entries: &[Security]) -> Vec<u8> {
+    let count = (entries.len() as u16).to_le_bytes().to_vec();
+    let classes = entries.iter().map(|&(class, _)| class).collect();
+    let isins = entries.iter().flat_map(|&(_, isin)| isin).collect();
+    [count, classes, isins].concat()
+}

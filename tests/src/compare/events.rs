@@ -1,9 +1,10 @@
 //! Event files: read, and written again into a page.
 
-use super::{damage, hex, Hex};
+use super::{hex, Hex};
 use crate::check::{Check, Round, Tests};
 use crate::desk::{self, Answer};
 use crate::events::{self, Body, Event, MOST_EVENTS, WIDTH};
+use crate::histories::{damage, random_event};
 use crate::random::Random;
 use crate::refusal::Refusal;
 
@@ -213,23 +214,6 @@ fn file_of_bodies(events: &[(u8, Body)]) -> Vec<u8> {
     let kinds = events.iter().map(|&(kind, _)| kind).collect();
     let bodies = events.iter().flat_map(|&(_, body)| body).collect();
     [header, kinds, bodies].concat()
-}
-
-fn random_event(random: &mut Random, kind: u8) -> Event {
-    let number = random.word() as u16;
-    let [first, second] = [(); 2].map(|_| random.byte());
-    let [quantity, price] = [(); 2].map(|_| random.sized_word() as u32);
-    match kind {
-        1 => Event::Trade { security: number, seller: first, buyer: second, quantity, price },
-        2 => Event::Price { security: number, price },
-        3 => Event::Delivery { short: number, quantity },
-        4 => Event::Attempt { short: number },
-        5 => Event::Offer { short: number, offerer: first, quantity, price },
-        6 => Event::Award { short: number },
-        7 => Event::Confirm { award: number },
-        8 => Event::Cash { short: number },
-        _ => Event::Close,
-    }
 }
 
 fn random_events(random: &mut Random, count: usize) -> Vec<Event> {

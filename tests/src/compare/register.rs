@@ -1,11 +1,13 @@
 //! Registers and ISINs.
 
-use super::{damage, hex};
+use super::hex;
 use crate::check::{Check, Round, Tests};
 use crate::desk::{self, Answer};
+use crate::histories::damage;
+use crate::histories::registers::{completed, different, random_isin, CAPITALS, DIGITS};
 use crate::random::Random;
 use crate::refusal::Refusal;
-use crate::register::{self, Security};
+use crate::register::{self, bytes_of as register_of, Security};
 
 /// Securities on the market, and the one of document 01's example.
 const REAL_ISINS: [&[u8; 12]; 24] = [
@@ -34,9 +36,6 @@ const REAL_ISINS: [&[u8; 12]; 24] = [
     b"IT0003128367",
     b"XX0000000002",
 ];
-
-const CAPITALS: &[u8; 26] = b"ABCDEFGHIJKLMNOPQRSTUVWXYZ";
-const DIGITS: &[u8; 10] = b"0123456789";
 
 pub fn exhaustive(tests: &mut Tests) {
     tests.check("ISINs: real ones", &[0, 3], |check| {
@@ -189,48 +188,10 @@ fn known(check: &mut Check, entries: &[Security], known: Answer) {
     check.known_answer(|| hex(&bytes), desk::register(&bytes), second(&bytes), known);
 }
 
-fn register_of(entries: &[Security]) -> Vec<u8> {
-    let count = (entries.len() as u16).to_le_bytes().to_vec();
-    let classes = entries.iter().map(|&(class, _)| class).collect();
-    let isins = entries.iter().flat_map(|&(_, isin)| isin).collect();
-    [count, classes, isins].concat()
-}
-
 /// The first entries of a register, under its old count.
 fn shaped(whole: &[u8], count: usize, kept: usize) -> Vec<u8> {
     let (classes, isins) = whole[2..].split_at(count);
     [&whole[..2], &classes[..kept], &isins[..12 * kept]].concat()
-}
-
-fn random_isin(random: &mut Random) -> [u8; 12] {
-    completed(std::array::from_fn(|at| {
-        let letter = at < 2 || random.one_in(3);
-        if letter {
-            random.pick(CAPITALS)
-        } else {
-            random.pick(DIGITS)
-        }
-    }))
-}
-
-/// The ISIN with the check digit that belongs to its first eleven characters.
-fn completed(mut isin: [u8; 12]) -> [u8; 12] {
-    isin[11] = b'0';
-    let over = register::weighted_sum(&isin) % 10;
-    isin[11] = DIGITS[(10 - over as usize) % 10];
-    isin
-}
-
-/// Entries that pass, each with an ISIN of its own.
-fn different(random: &mut Random, count: usize) -> Vec<Security> {
-    let mut entries: Vec<Security> = Vec::new();
-    while entries.len() < count {
-        let isin = if random.one_in(8) { *random.pick(&REAL_ISINS) } else { random_isin(random) };
-        if entries.iter().all(|&(_, earlier)| earlier != isin) {
-            entries.push((random.between(1, 3) as u8, isin));
-        }
-    }
-    entries
 }
 
 fn damaged_register(random: &mut Random) -> Vec<u8> {

@@ -1,0 +1,225 @@
+//! The player program: its whole output on known and on grown histories.
+
+use super::hex;
+use crate::check::{Check, Round, Tests};
+use crate::desk::Answer;
+use crate::events::{file_of, Event};
+use crate::histories::{self, survey::Survey};
+use crate::register::bytes_of;
+use crate::{player, transcript};
+use std::hash::{DefaultHasher, Hash, Hasher};
+use std::process::Command;
+
+/// What a file can meet: every refusal of register, file and call but for 8, as the player's sheets suffice, and 26, as
+/// no file has enough closes.
+const REACHABLE: [u32; 25] =
+    [0, 1, 2, 3, 4, 5, 6, 7, 9, 10, 11, 12, 13, 14, 15, 16, 17, 18, 19, 20, 21, 22, 23, 24, 25];
+
+const HISTORIES: usize = 1_500;
+const LONG_HISTORIES: usize = 16;
+
+/// The bytes of a wrong input that are shown; all of it goes to a file.
+const MOST_SHOWN: usize = 200;
+
+pub fn exhaustive(tests: &mut Tests) {
+    tests.check("player: document 01's example", &[0], |check| {
+        known(check, &input(1, &example()), EXAMPLE.to_string());
+    });
+    tests.check("player: document 01's squeeze", &[0, 17], |check| {
+        known(check, &input(1, &squeeze()), SQUEEZE.to_string());
+    });
+    tests.check("player: bought in below the reference price", &[0], |check| {
+        let closes: String = (3..=31).map(|number| format!("e {number} 0 0\n")).collect();
+        let auction = "e 32 0 0\ne 33 0 30\ne 34 0 30\ne 35 0 30\np 1 2 30 0\n";
+        let end = "s 1 1 D 30 0 30 0 0\ns 2 2 R 30 0 30 0 0\na 0 -300\na 1 300\n";
+        known(check, &input(2, &bought_in_below()), format!("e 1 0 30\ne 2 0 0\n{closes}{auction}{end}"));
+    });
+    tests.check("player: input cut off at each byte", &[0, 1, 5], |check| {
+        let whole = input(1, &example());
+        for length in 0..=whole.len() {
+            compare(check, &whole[..length]);
+        }
+    });
+}
+
+pub fn seeded(round: &mut Round) {
+    let mut survey = Survey::default();
+    round.check("player: histories", &REACHABLE, |check, random| {
+        for _ in 0..HISTORIES {
+            let input = histories::any(random);
+            survey.add(&input);
+            compare(check, &input);
+        }
+        // No short history holds 512 trades.
+        compare(check, &histories::full_book(random));
+    });
+    round.check("player: long histories", &[0, 11, 15, 17, 18, 24], |check, random| {
+        for which in 0..LONG_HISTORIES {
+            let input = histories::long(random, which);
+            survey.add(&input);
+            compare(check, &input);
+        }
+    });
+    round.check("player: states that the histories reach", &[], |check, _| {
+        for (state, times) in survey.times() {
+            check.reached(state, times);
+        }
+    });
+}
+
+const EXAMPLE: &str = "\
+e 1 0 100
+e 2 0 0
+e 3 0 0
+e 4 0 100
+p 1 2 100 0
+s 1 1 D 100 100 0 0 0
+s 2 2 R 100 100 0 0 0
+";
+
+fn example() -> Vec<Event> {
+    let trade = Event::Trade { security: 1, seller: 1, buyer: 2, quantity: 100, price: 1_000 };
+    vec![trade, Event::Close, Event::Close, Event::Delivery { short: 1, quantity: 100 }]
+}
+
+const SQUEEZE: &str = "\
+e 1 0 100
+e 2 0 50
+e 3 0 0
+e 4 0 0
+e 5 17 0
+e 6 0 0
+e 7 0 30
+p 1 2 30 0
+e 8 0 0
+e 9 0 0
+e 10 0 0
+e 11 0 0
+e 12 0 0
+e 13 0 0
+e 14 0 40
+e 15 0 30
+e 16 0 70
+e 17 0 30
+p 1 2 30 0
+e 18 0 0
+e 19 0 0
+e 20 0 0
+e 21 0 90
+p 1 2 40 88000
+p 1 3 50 110000
+s 1 1 D 150 30 30 90 0
+s 2 2 R 100 30 30 40 0
+s 3 3 R 50 0 0 50 0
+a 0 126595
+a 1 -224595
+a 2 88000
+a 3 110000
+a 4 -100000
+";
+
+fn squeeze() -> Vec<Event> {
+    let delivery = Event::Delivery { short: 1, quantity: 30 };
+    let closes = |days| vec![Event::Close; days];
+    [
+        vec![
+            Event::Trade { security: 1, seller: 1, buyer: 2, quantity: 100, price: 1_000 },
+            Event::Trade { security: 1, seller: 1, buyer: 3, quantity: 50, price: 1_200 },
+            Event::Price { security: 1, price: 1_100 },
+        ],
+        closes(1),
+        vec![delivery],
+        closes(1),
+        vec![delivery],
+        closes(5),
+        vec![
+            Event::Attempt { short: 1 },
+            Event::Offer { short: 1, offerer: 4, quantity: 40, price: 1_300 },
+            Event::Offer { short: 1, offerer: 5, quantity: 30, price: 1_250 },
+            Event::Award { short: 1 },
+            Event::Confirm { award: 1 },
+        ],
+        closes(3),
+        vec![Event::Cash { short: 1 }],
+    ]
+    .concat()
+}
+
+/// In class 2, which has no late fines.
+fn bought_in_below() -> Vec<Event> {
+    [
+        vec![
+            Event::Trade { security: 1, seller: 1, buyer: 2, quantity: 30, price: 1_200 },
+            Event::Price { security: 1, price: 1_100 },
+        ],
+        vec![Event::Close; 29],
+        vec![
+            Event::Attempt { short: 1 },
+            Event::Offer { short: 1, offerer: 3, quantity: 30, price: 1_190 },
+            Event::Award { short: 1 },
+            Event::Confirm { award: 1 },
+        ],
+    ]
+    .concat()
+}
+
+/// The player's input on one security, document 01's.
+pub fn input(class: u8, events: &[Event]) -> Vec<u8> {
+    [bytes_of(&[(class, *b"XX0000000002")]), file_of(events)].concat()
+}
+
+fn output(input: &[u8]) -> Vec<u8> {
+    // An error is compared as if it were printed, and differs.
+    player::output_of(&mut Command::new(player::path()), input).unwrap_or_else(|error| error.to_string().into_bytes())
+}
+
+fn compare(check: &mut Check, input: &[u8]) {
+    let second = transcript::transcript(input);
+    count(check, &second);
+    let (player_line, second_line) = first_difference(&output(input), &second);
+    check.same(|| shown(input), player_line, second_line);
+}
+
+/// An output known beforehand, wanted of the player and of the second implementation alike.
+fn known(check: &mut Check, input: &[u8], known: String) {
+    let [player, second] =
+        [output(input), transcript::transcript(input)].map(|bytes| String::from_utf8_lossy(&bytes).into_owned());
+    count(check, known.as_bytes());
+    check.known(|| shown(input), player, second, known);
+}
+
+/// Counts the answers to the calls, and the refusals of whole inputs.
+fn count(check: &mut Check, output: &[u8]) {
+    for line in String::from_utf8_lossy(output).lines() {
+        let words: Vec<&str> = line.split(' ').collect();
+        if let ["f", number] | ["e", _, number, _] = words[..] {
+            check.count(Answer::refused(number.parse().expect("a refusal is a number")));
+        }
+    }
+}
+
+/// The first lines that differ, with their number; nothing where the outputs are the same.
+fn first_difference(player: &[u8], second: &[u8]) -> (Option<String>, Option<String>) {
+    if player == second {
+        return (None, None);
+    }
+    let [player_lines, second_lines] = [player, second].map(|output| output.split_inclusive(|&byte| byte == b'\n'));
+    let same = player_lines.clone().zip(second_lines.clone()).take_while(|(player, second)| player == second).count();
+    let line = |found: Option<&[u8]>| {
+        let text = found.map_or("nothing more".into(), String::from_utf8_lossy);
+        Some(format!("line {}: {text}", same + 1))
+    };
+    (line(player_lines.clone().nth(same)), line(second_lines.clone().nth(same)))
+}
+
+fn shown(input: &[u8]) -> String {
+    let mut hasher = DefaultHasher::new();
+    input.hash(&mut hasher);
+    let file = std::env::temp_dir().join(format!("fails-book-input-{:016x}", hasher.finish()));
+    let kept = match std::fs::write(&file, input) {
+        Ok(()) => format!("whole in {}", file.display()),
+        Err(error) => format!("not kept: {error}"),
+    };
+    let cut = if input.len() > MOST_SHOWN { ".." } else { "" };
+    format!("{}{cut} ({} bytes, {kept})", hex(&input[..input.len().min(MOST_SHOWN)]), input.len())
+}

@@ -1,0 +1,107 @@
+//! What no file reaches: sheets that are too short or longer than the player's, and the last business days.
+
+use super::hex;
+use super::player::input;
+use crate::check::{Check, Round, Tests};
+use crate::desk::{self, Answer};
+use crate::events::Event;
+use crate::histories;
+use crate::transcript;
+
+const SHEETS: [u32; 6] = [0, 1, 1_023, 1_024, 1_025, 65_536];
+
+/// After 9,998 closes it is day 9,999; further ones are refused.
+const CLOSES: [u32; 4] = [9_997, 9_998, 9_999, 20_000];
+
+pub fn exhaustive(tests: &mut Tests) {
+    let trade = Event::Trade { security: 1, seller: 1, buyer: 2, quantity: 100, price: 1_000 };
+    let delivery = Event::Delivery { short: 1, quantity: 60 };
+    tests.check("sheets: a delivery and what is no discharge", &[0, 8, 11], |check| {
+        for sheet in SHEETS {
+            let enough = sheet >= 1_024;
+            let delivered = if enough { Answer::accepted(60) } else { Answer::refused(8) };
+            known(check, &[trade, Event::Close, Event::Close, delivery], 0, sheet, delivered);
+            // A short sheet is the first reason.
+            let not_there = Answer::refused(if enough { 11 } else { 8 });
+            for discharge in [delivery, Event::Confirm { award: 1 }, Event::Cash { short: 1 }] {
+                known(check, &[discharge], 0, sheet, not_there);
+            }
+            // The other calls have no sheet.
+            known(check, &[trade], 0, sheet, Answer::accepted(100));
+            known(check, &[Event::Close], 0, sheet, Answer::accepted(0));
+            known(check, &[Event::Attempt { short: 1 }], 0, sheet, Answer::refused(11));
+            known(check, &[], 0, sheet, Answer::accepted(0));
+        }
+    });
+    tests.check("sheets: day 9,999", &[0, 17, 26], |check| {
+        for (closes, refusal) in CLOSES.into_iter().zip([0, 26, 26, 26]) {
+            known(check, &[Event::Close], closes, 1_024, Answer::refused(refusal));
+            known(check, &[Event::Close, Event::Close], closes, 1_024, Answer::refused(26));
+            known(check, &[Event::Close, trade], closes, 1_024, Answer::accepted(100));
+        }
+        // Traded on day 9,997 it is due on the last day, traded on day 9,998 it never is.
+        let history = [trade, Event::Close, Event::Close, delivery, Event::Close];
+        known(check, &history[..4], 9_996, 1_024, Answer::accepted(60));
+        known(check, &history, 9_996, 1_024, Answer::refused(26));
+        known(check, &history[..4], 9_997, 1_024, Answer::refused(17));
+        known(check, &history, 9_995, 1_024, Answer::accepted(0));
+    });
+    tests.check("sheets: buy-in and cash settlement on day 9,999", &[0, 8, 18, 26], |check| {
+        let price = Event::Price { security: 1, price: 1_100 };
+        let offer = Event::Offer { short: 1, offerer: 3, quantity: 60, price: 1_200 };
+        let [attempt, award] = [Event::Attempt { short: 1 }, Event::Award { short: 1 }];
+        let confirm = Event::Confirm { award: 1 };
+        let late = |days: usize, steps: &[Event]| [&[trade, price], &vec![Event::Close; days][..], steps].concat();
+        // Traded on day 9,992, the short is in its attempt window on the last day.
+        known(check, &late(7, &[attempt]), 9_991, 1_023, Answer::accepted(0));
+        known(check, &late(7, &[attempt, Event::Close]), 9_991, 1_024, Answer::refused(18));
+        known(check, &late(7, &[attempt, offer, award]), 9_991, 1_023, Answer::accepted(60));
+        known(check, &late(7, &[attempt, offer, award, confirm]), 9_991, 1_023, Answer::refused(8));
+        known(check, &late(7, &[attempt, offer, award, confirm]), 9_991, 1_024, Answer::accepted(60));
+        known(check, &late(7, &[attempt, award, Event::Close]), 9_991, 1_024, Answer::refused(26));
+        // Traded on day 9,989, it can be settled in cash.
+        known(check, &late(10, &[Event::Cash { short: 1 }]), 9_988, 1_024, Answer::accepted(100));
+        known(check, &late(10, &[Event::Cash { short: 1 }]), 9_988, 1_023, Answer::refused(8));
+    });
+}
+
+pub fn seeded(round: &mut Round) {
+    round.check("sheets: histories with sheets of any length", &[0, 8, 11, 16, 17, 24, 25], |check, random| {
+        for _ in 0..600 {
+            let input = histories::discharge_on_day(random, 0);
+            for sheet in SHEETS.into_iter().chain([random.below(2_048) as u32, random.below(65_536) as u32]) {
+                compare(check, &input, 0, sheet);
+            }
+        }
+    });
+    round.check("sheets: histories of the last days", &[0, 8, 11, 26], |check, random| {
+        for _ in 0..300 {
+            let late = if random.one_in(2) { random.pick(&CLOSES) } else { random.between(9_900, 9_998) as u32 };
+            let input = histories::discharge_on_day(random, late);
+            compare(check, &input, late, random.pick(&[1_023, 1_024, 1_024, 1_024]));
+        }
+    });
+    round.check("sheets: damaged inputs", &[1, 2, 3, 4, 5, 6, 7], |check, random| {
+        for _ in 0..1_000 {
+            let sound = histories::discharge_on_day(random, 0);
+            let input = histories::damaged(random, sound);
+            compare(check, &input, random.below(3) as u32, random.pick(&SHEETS));
+        }
+    });
+}
+
+fn second(input: &[u8], closes: u32, sheet: u32) -> Answer {
+    transcript::last_call(input, closes, sheet as usize).map(|answer| answer.quantity).into()
+}
+
+fn compare(check: &mut Check, input: &[u8], closes: u32, sheet: u32) {
+    let words = || format!("{} after {closes} closes with {sheet} places", hex(input));
+    check.same_answer(words, desk::last_call(input, closes, sheet), second(input, closes, sheet));
+}
+
+/// An answer known beforehand, wanted of the desk and of the second implementation alike.
+fn known(check: &mut Check, events: &[Event], closes: u32, sheet: u32, known: Answer) {
+    let input = input(1, events);
+    let words = || format!("{events:?} after {closes} closes with {sheet} places");
+    check.known_answer(words, desk::last_call(&input, closes, sheet), second(&input, closes, sheet), known);
+}

@@ -1,0 +1,553 @@
+//! The player's input as text and its output in words: the examples for people, and known and random inputs.
+
+use super::{hex, Hex};
+use crate::check::{Check, Round, Tests};
+use crate::histories::{self, random_event};
+use crate::random::Random;
+use crate::refusal::Refusal;
+use crate::register::Security;
+use crate::{player, transcript};
+use second::text::{self, Input};
+use std::fmt::Debug;
+use std::process::Command;
+
+struct Example {
+    name: &'static str,
+    text: &'static str,
+    binary: &'static [u8],
+    output: &'static str,
+    words: &'static str,
+}
+
+const EXAMPLE: Example = Example {
+    name: "example",
+    text: include_str!("../../../examples/example.txt"),
+    binary: include_bytes!("../../../examples/example.bin"),
+    output: include_str!("../../../examples/example.out"),
+    words: include_str!("../../../examples/example.words"),
+};
+
+const SQUEEZE: Example = Example {
+    name: "squeeze",
+    text: include_str!("../../../examples/squeeze.txt"),
+    binary: include_bytes!("../../../examples/squeeze.bin"),
+    output: include_str!("../../../examples/squeeze.out"),
+    words: include_str!("../../../examples/squeeze.words"),
+};
+
+/// A register of one security, as a line.
+const SECURITY: &str = "security 1 XX0000000002\n";
+
+pub fn exhaustive(tests: &mut Tests) {
+    tests.check("text: the examples in both forms", &[], |check| {
+        for Example { name, text, binary: bytes, .. } in [EXAMPLE, SQUEEZE] {
+            same(check, || format!("{name}.txt"), binary(text), Ok(Hex(bytes.to_vec())));
+            same(check, || format!("{name}.bin"), again(bytes), Ok(Hex(bytes.to_vec())));
+        }
+    });
+    tests.check("text: the player's output on the examples", &[], |check| {
+        for Example { name, binary, output, .. } in [EXAMPLE, SQUEEZE] {
+            let player = player::output_of(&mut Command::new(player::path()), binary);
+            let player = player.map_or_else(|error| error.to_string(), readable);
+            let second = readable(transcript::transcript(binary));
+            check.known(|| format!("{name}.bin"), player, second, output.to_string());
+        }
+    });
+    tests.check("text: the examples, and ones, in words", &[], |check| {
+        for Example { name, text, output, words, .. } in [EXAMPLE, SQUEEZE] {
+            same(check, || name.to_string(), words_of(text, output), Ok(words.to_string()));
+        }
+        same(check, || ONES.to_string(), words_of(ONES, ONES_OUTPUT), Ok(ONES_WORDS.to_string()));
+    });
+    tests.check("text: other spellings", &[], |check| {
+        for (spelling, plain) in SPELLINGS {
+            same(check, || spelling.to_string(), binary(spelling), binary(plain));
+            same(check, || spelling.to_string(), written(spelling), Ok(plain.to_string()));
+        }
+    });
+    tests.check("text: bad texts", &[], bad_texts);
+    tests.check("text: the largest number of each field", &[], largest_numbers);
+    tests.check("text: the most securities and events", &[], most_of_all);
+    tests.check("text: bytes that have no text", &[], bytes_without_text);
+    tests.check("text: outputs of other inputs", &[], other_outputs);
+    tests.check("text: each refusal in words", &[], refusals_in_words);
+}
+
+pub fn seeded(round: &mut Round) {
+    round.check("text: random inputs", &[], random_inputs);
+    round.check("text: random spellings", &[], |check, random| {
+        for _ in 0..2_000 {
+            let [securities, events] = [random.between(1, 4), random.below(20)];
+            let input = random_input(random, securities, events);
+            let spelling = text::write(&input).map(|plain| respelled(random, &plain));
+            let found = spelling.clone().and_then(|text| binary(&text));
+            same(check, || format!("{spelling:?}"), found, Ok(Hex(input.bytes())));
+        }
+    });
+    round.check("text: damaged inputs", &[], damaged_inputs);
+    round.check("text: histories in words", &[], |check, random| {
+        for _ in 0..400 {
+            let bytes = histories::any(random);
+            if let Ok(input) = Input::from_bytes(&bytes) {
+                history_in_words(check, random, &input);
+            }
+        }
+    });
+}
+
+fn most_of_all(check: &mut Check) {
+    let random = &mut Random::new(0, "the most of all");
+    for (securities, events) in [(33, 2_049), (1, 65_535), (65_535, 1)] {
+        let bytes = random_input(random, securities, events).bytes();
+        // Shown by their counts alone: the bytes are too many.
+        let kept = again(&bytes) == Ok(Hex(bytes));
+        same(check, || format!("{securities} securities, {events} events"), kept, true);
+    }
+}
+
+fn random_inputs(check: &mut Check, random: &mut Random) {
+    let mut kinds = [0; 9];
+    for _ in 0..3_000 {
+        let [securities, events] = [random.between(1, 40), random.below(64)];
+        let input = random_input(random, securities, events);
+        input.events.iter().for_each(|event| kinds[usize::from(event.kind()) - 1] += 1);
+        let bytes = input.bytes();
+        same(check, || hex(&bytes), again(&bytes), Ok(Hex(bytes.clone())));
+    }
+    for (times, kind) in kinds.into_iter().zip(1..) {
+        check.reached(&format!("an event of kind {kind}"), times);
+    }
+}
+
+fn damaged_inputs(check: &mut Check, random: &mut Random) {
+    let [mut with_text, mut without_text] = [0, 0];
+    for _ in 0..3_000 {
+        let sound = histories::discharge_on_day(random, 0);
+        let bytes = histories::damaged(random, sound);
+        match again(&bytes) {
+            Ok(found) => {
+                with_text += 1;
+                same(check, || hex(&bytes), found, Hex(bytes.clone()));
+            }
+            Err(_) => {
+                without_text += 1;
+                // What has no text is never a sound input.
+                same(check, || hex(&bytes), transcript::open(&bytes).is_err(), true);
+            }
+        }
+    }
+    check.reached("an input that has a text", with_text);
+    check.reached("an input that has none", without_text);
+}
+
+/// Quantities and amounts of one; nothing here is compared with what a book would answer.
+const ONES: &str = "\
+security 1 XX0000000002
+trade 1 2 1 1 1
+offer 1 3 1 1
+award 1
+confirm 1
+cash 1
+";
+
+const ONES_OUTPUT: &str = "\
+e 1 0 1
+e 2 0 1
+e 3 0 1
+e 4 0 1
+p 1 2 1 0
+e 5 0 1
+p 1 2 1 1
+a 0 1
+a 1 -1
+";
+
+const ONES_WORDS: &str = "\
+1. trade: member 1 sells 1 unit of security 1 at 1 to member 2: accepted
+2. offer on position 1: member 3 offers 1 unit at 1: accepted
+3. award on position 1: 1 unit awarded
+4. confirmation of award 1: 1 unit bought in
+   1 unit from position 1 to position 2
+5. cash settlement of position 1: 1 unit
+   1 unit from position 1 to position 2 for 1 cent
+account 0, the house: 1 cent
+account 1, member 1: -1 cent
+";
+
+/// A spelling and the text that is written for it.
+const SPELLINGS: [(&str, &str); 6] = [
+    ("# none\n\n security\t1  XX0000000002 # a share\r\n#\n", "security 1 XX0000000002\n"),
+    ("security 0 XX0000000002\nsecurity 255 ############ #\n", "security 0 XX0000000002\nsecurity 255 ############\n"),
+    ("security 1 #X0000#00002 #\n", "security 1 #X0000#00002\n"),
+    (
+        "security 1 XX0000000002\nprice 1 1,000#cents\nprice 1 10_000_000\n",
+        "security 1 XX0000000002\nprice 1 1000\nprice 1 10000000\n",
+    ),
+    (
+        "security 1 XX0000000002\nclose 3\nclose # one\nclose 1#",
+        "security 1 XX0000000002\nclose\nclose\nclose\nclose\nclose\n",
+    ),
+    ("security 1 XX0000000002\ntrade 001 2 0 0 0", "security 1 XX0000000002\ntrade 1 2 0 0 0\n"),
+];
+
+/// Lines after a register of one security, and what is wrong with the last of them.
+const BAD_EVENTS: [(&str, &str); 26] = [
+    ("sell 1 2 1 100 1000", "line 2: unknown word \"sell\""),
+    ("\n# none\nTrade 1 2 1 100 1000", "line 4: unknown word \"Trade\""),
+    (
+        "close\ntrade 1 2 1 100",
+        "line 3: trade takes 5 numbers (seller, buyer, security, quantity, price), and 4 are there",
+    ),
+    ("trade", "line 2: trade takes 5 numbers (seller, buyer, security, quantity, price), and none is there"),
+    ("price 1", "line 2: price takes 2 numbers (security, price), and 1 is there"),
+    ("delivery 1 2 3", "line 2: delivery takes 2 numbers (position, quantity), and 3 are there"),
+    ("attempt # 1", "line 2: attempt takes 1 number (position), and none is there"),
+    ("offer 1 4 40", "line 2: offer takes 4 numbers (position, offerer, quantity, price), and 3 are there"),
+    ("award 1 2", "line 2: award takes 1 number (position), and 2 are there"),
+    ("confirm", "line 2: confirm takes 1 number (award), and none is there"),
+    ("cash", "line 2: cash takes 1 number (position), and none is there"),
+    ("close 1 2", "line 2: close takes at most 1 number (count of closes), and 2 are there"),
+    ("close 0", "line 2: the count of closes is 0"),
+    ("close 65,536", "line 2: the count of closes is too large: 65,536, and its field holds at most 65,535"),
+    ("close 65535\nclose", "line 3: more than 65,535 events"),
+    ("price 1 -5", "line 2: the price is no number: \"-5\""),
+    ("price 1 +5", "line 2: the price is no number: \"+5\""),
+    ("price 1 12.50", "line 2: the price is no number: \"12.50\""),
+    ("price 1 _", "line 2: the price is no number: \"_\""),
+    ("price 1 12,50", "line 2: the price is not in groups of three digits: \"12,50\""),
+    ("price 1 1000,000", "line 2: the price is not in groups of three digits: \"1000,000\""),
+    ("price 1 ,100", "line 2: the price is not in groups of three digits: \",100\""),
+    ("price 1 1__000", "line 2: the price is not in groups of three digits: \"1__000\""),
+    (
+        "price 1 99999999999999999999",
+        "line 2: the price is too large: 99999999999999999999, and its field holds at most 4,294,967,295",
+    ),
+    ("close\nsecurity 1 XX0000000010", "line 3: a security stands after the first event"),
+    ("security 256 XX0000000010", "line 2: the class is too large: 256, and its field holds at most 255"),
+];
+
+/// Texts that go wrong in the register.
+const BAD_REGISTERS: [(&str, &str); 9] = [
+    ("", "line 1: the text ends without a security"),
+    ("\n# none\n", "line 2: the text ends without a security"),
+    ("close", "line 1: an event stands before the first security"),
+    ("security 1", "line 1: security takes 2 fields (class, ISIN), and 1 is there"),
+    ("security 1 # XX0000000002", "line 1: security takes 2 fields (class, ISIN), and 1 is there"),
+    ("security 1 XX0000000002 2", "line 1: security takes 2 fields (class, ISIN), and 3 are there"),
+    ("security XX0000000002 1", "line 1: the class is no number: \"XX0000000002\""),
+    ("security 1 XX000000002", "line 1: an ISIN is 12 ASCII signs without blanks, and \"XX000000002\" is not"),
+    ("security 1 XX00000000é2", "line 1: an ISIN is 12 ASCII signs without blanks, and \"XX00000000é2\" is not"),
+];
+
+fn bad_texts(check: &mut Check) {
+    for (lines, message) in BAD_EVENTS {
+        same(check, || lines.to_string(), binary(&format!("{SECURITY}{lines}")), Err(message.to_string()));
+    }
+    for (text, message) in BAD_REGISTERS {
+        same(check, || text.to_string(), binary(text), Err(message.to_string()));
+    }
+    let many = SECURITY.repeat(65_536);
+    let message = "line 65536: more than 65,535 securities";
+    same(check, || "65,536 securities".to_string(), binary(&many), Err(message.to_string()));
+}
+
+/// Lines with a place for a number, the name of its field and the largest number there.
+const FIELDS: [(&str, &str, u64); 17] = [
+    ("trade @ 2 1 100 1000", "seller", 255),
+    ("trade 1 @ 1 100 1000", "buyer", 255),
+    ("trade 1 2 @ 100 1000", "security", 65_535),
+    ("trade 1 2 1 @ 1000", "quantity", 4_294_967_295),
+    ("trade 1 2 1 100 @", "price", 4_294_967_295),
+    ("price @ 1000", "security", 65_535),
+    ("price 1 @", "price", 4_294_967_295),
+    ("delivery @ 100", "position", 65_535),
+    ("delivery 1 @", "quantity", 4_294_967_295),
+    ("attempt @", "position", 65_535),
+    ("offer @ 3 100 1000", "position", 65_535),
+    ("offer 1 @ 100 1000", "offerer", 255),
+    ("offer 1 3 @ 1000", "quantity", 4_294_967_295),
+    ("offer 1 3 100 @", "price", 4_294_967_295),
+    ("award @", "position", 65_535),
+    ("confirm @", "award", 65_535),
+    ("cash @", "position", 65_535),
+];
+
+fn largest_numbers(check: &mut Check) {
+    for (line, name, largest) in FIELDS {
+        let with = |number: u64| format!("{SECURITY}{}\n", line.replace('@', &number.to_string()));
+        same(check, || line.to_string(), written(&with(largest)), Ok(with(largest)));
+        same(check, || line.to_string(), written(&with(0)), Ok(with(0)));
+        let message = binary(&with(largest + 1)).err().unwrap_or_default();
+        let start = format!("line 2: the {name} is too large: {}, ", largest + 1);
+        same(check, || format!("{line}: {message}"), message.starts_with(&start), true);
+    }
+}
+
+fn bytes_without_text(check: &mut Check) {
+    let whole = EXAMPLE.binary;
+    // 15 bytes of register, 4 of the file's head, 4 kinds, 4 bodies.
+    for length in 0..whole.len() {
+        let message = match length {
+            0..2 => "it ends before the register's count does".to_string(),
+            2..15 => format!("a register with the count 1 has 15 bytes, and {length} are there"),
+            15..19 => "it ends before the file's count and width do".to_string(),
+            _ => format!("a file with the count 4 has 72 bytes, and {} are there", length - 15),
+        };
+        let message = format!("this is no register and file: {message}");
+        same(check, || format!("{length} bytes"), again(&whole[..length]), Err(message));
+    }
+    let changes = [
+        // Without securities the file begins at the class, and the second and third sign of the ISIN are its width.
+        (0, 0, "this is no register and file: the file's body width is 12376 and not 16"),
+        (17, 17, "this is no register and file: the file's body width is 17 and not 16"),
+        (3, b' ', "security 1: the ISIN is not 12 ASCII signs without blanks"),
+        (14, 0x80, "security 1: the ISIN is not 12 ASCII signs without blanks"),
+        (20, 0, "event 2: the kind is 0 and not 1 to 9"),
+        (22, 10, "event 4: the kind is 10 and not 1 to 9"),
+        (23 + 12, 1, "event 1: a spare byte is not zero"),
+    ];
+    for (at, byte, message) in changes {
+        let mut bytes = whole.to_vec();
+        bytes[at] = byte;
+        same(check, || format!("byte {at} set to {byte}"), again(&bytes), Err(message.to_string()));
+    }
+    let message = "this is no register and file: a file with the count 4 has 72 bytes, and 73 are there".to_string();
+    same(check, || "one byte more".to_string(), again(&[whole, &[0]].concat()), Err(message));
+    let empty = [0, 0, 0, 0, 16, 0];
+    let message = "the register is empty, and text has at least one security".to_string();
+    same(check, || hex(&empty), again(&empty), Err(message));
+}
+
+/// What is changed in the example's output, to what, and why it is then not the example's.
+const OTHER_OUTPUTS: [(&str, &str, &str); 22] = [
+    ("e 1 0 100\n", "e 1 0 99\n", "output line 1: the quantity is not the event's"),
+    ("e 1 0 100\n", "e 1 0 0100\n", "output line 1: the player prints no such line: \"e 1 0 0100\\n\""),
+    ("e 2 0 0\n", "", "output line 2: event 2 should be here"),
+    ("e 2 0 0\n", "e 2 0 1\n", "output line 2: the quantity is not the event's"),
+    ("e 2 0 0\n", "e 2 0 0\np 1 2 100 0\n", "output line 3: event 3 should be here"),
+    ("e 3 0 0\n", "e 3 7 0\n", "output line 3: no call is refused like this"),
+    ("e 3 0 0\n", "e 3 27 0\n", "output line 3: no call is refused like this"),
+    ("e 3 0 0\n", "e 3 17 1\n", "output line 3: no call is refused like this"),
+    ("p 1 2 100 0\n", "", "output line 4: the pieces do not make up the quantity"),
+    ("p 1 2 100 0\n", "p 1 2 99 0\n", "output line 4: the pieces do not make up the quantity"),
+    ("p 1 2 100 0\n", "p 1 2 101 0\n", "output line 5: the piece is not one of this event's"),
+    ("p 1 2 100 0\n", "p 1 2 100 1\n", "output line 5: the piece is not one of this event's"),
+    ("p 1 2 100 0\n", "p 2 1 100 0\n", "output line 5: the piece is not one of this event's"),
+    ("s 1 1 D", "s 2 1 D", "output line 6: position 1 should be here"),
+    ("s 1 1 D 100 100", "s 1 1 D 100 99", "output line 6: the quantities do not make up the netted one"),
+    (
+        "R 100 100 0 0 0\n",
+        "R 100 100 0 0 0",
+        "output line 7: the player prints no such line: \"s 2 2 R 100 100 0 0 0\"",
+    ),
+    ("0 0 0\ns 2", "0 0 0\na 1 5\ns 2", "output line 8: the output should have ended"),
+    ("R 100 100 0 0 0\n", "R 100 100 0 0 0\na 64 5\n", "output line 8: an account from 0 to 63 should be here"),
+    ("R 100 100 0 0 0\n", "R 100 100 0 0 0\na 2 0\n", "output line 8: an account of 0 cents is not printed"),
+    ("R 100 100 0 0 0\n", "R 100 100 0 0 0\na 2 5\na 2 -5\n", "output line 9: an account from 3 to 63 should be here"),
+    ("e 1 0 100\n", "f 4\n", "output line 2: the output should have ended"),
+    ("e 1 0 100\n", "f 8\n", "output line 1: no input is refused with this number"),
+];
+
+fn other_outputs(check: &mut Check) {
+    for (from, to, message) in OTHER_OUTPUTS {
+        let output = EXAMPLE.output.replacen(from, to, 1);
+        same(check, || output.clone(), words_of(EXAMPLE.text, &output), Err(message.to_string()));
+    }
+    let cut_off = "e 1 0 100\n";
+    let message = "the output ends, and event 2 should be here".to_string();
+    same(check, || cut_off.to_string(), words_of(EXAMPLE.text, cut_off), Err(message));
+}
+
+/// A word that the reason for each refusal must have, by which it is told from its neighbours.
+const REASONS: [(Refusal, &str); 26] = [
+    (Refusal::RegisterSize, "register's count"),
+    (Refusal::Class, "class"),
+    (Refusal::Isin, "malformed"),
+    (Refusal::RepeatedIsin, "earlier"),
+    (Refusal::FileSize, "file's count"),
+    (Refusal::Kind, "kind"),
+    (Refusal::Spare, "spare"),
+    (Refusal::SheetSize, "sheet"),
+    (Refusal::Member, "member"),
+    (Refusal::Security, "registered"),
+    (Refusal::NotThere, "not there"),
+    (Refusal::Quantity, "quantity"),
+    (Refusal::Price, "10,000,000"),
+    (Refusal::SellerIsBuyer, "buyer"),
+    (Refusal::TradesFull, "512"),
+    (Refusal::Long, "long"),
+    (Refusal::Window, "window"),
+    (Refusal::Auction, "auction"),
+    (Refusal::NoPrice, "never had a price"),
+    (Refusal::Attempts, "attempts"),
+    (Refusal::Failing, "failing"),
+    (Refusal::Ceiling, "ceiling"),
+    (Refusal::OffersFull, "offers are in"),
+    (Refusal::NotFree, "free"),
+    (Refusal::Confirmed, "confirmed"),
+    (Refusal::LastDay, "9,999"),
+];
+
+fn refusals_in_words(check: &mut Check) {
+    let text = format!("{SECURITY}award 1\n");
+    for (refusal, word) in REASONS {
+        let number = refusal as u32;
+        let of_input = number <= 7;
+        let output = if of_input { format!("f {number}\n") } else { format!("e 1 {number} 0\n") };
+        let start = if of_input { "the input is refused: " } else { "1. award on position 1: refused, " };
+        let words = words_of(&text, &output).unwrap_or_else(|message| message);
+        let reason = words.strip_prefix(start).and_then(|rest| rest.strip_suffix(&format!(" ({number})\n")));
+        let said = reason.is_some_and(|reason| reason.contains(word));
+        same(check, || format!("{output:?} in words: {words:?}, with {word:?}"), said, true);
+    }
+    let repeated = "the input is refused: an ISIN stands earlier in the register (4)\n";
+    same(check, || "f 4".to_string(), words_of(&text, "f 4\n"), Ok(repeated.to_string()));
+}
+
+/// What is put in one place of an output: parts of other lines.
+const CHANGES: [&str; 18] = [
+    "",
+    "0",
+    "1",
+    "2",
+    "9",
+    "-",
+    " ",
+    "\n",
+    "e",
+    "p",
+    "s",
+    "a",
+    "f",
+    "D",
+    "R",
+    "\na 9 1",
+    "\np 1 2 1 0",
+    "1 0\ne 2 0 ",
+];
+
+/// The words of the history's own output, a line for each of its lines, and those of an output changed in one place,
+/// which must not read the same.
+fn history_in_words(check: &mut Check, random: &mut Random, input: &Input) {
+    let output = transcript::transcript(&input.bytes());
+    let words = text::words(input, &output);
+    let lines = |bytes: &[u8]| bytes.iter().filter(|&&byte| byte == b'\n').count();
+    let found = words.as_ref().map(|words| lines(words.as_bytes()));
+    same(check, || hex(&input.bytes()), found, Ok(lines(&output)));
+    for _ in 0..20 {
+        let mut changed = output.clone();
+        let from = random.below(output.len() + 1);
+        let to = output.len().min(from + random.below(2));
+        changed.splice(from..to, random.pick(&CHANGES).bytes());
+        if changed != output {
+            let shown = || format!("{} with output {:?}", hex(&input.bytes()), String::from_utf8_lossy(&changed));
+            same(check, shown, text::words(input, &changed) == words, false);
+        }
+    }
+}
+
+/// The harness heads two answers `desk` and `second`; here neither is, so each says what it is.
+#[derive(Debug)]
+enum Value<T> {
+    Found(T),
+    Wanted(T),
+}
+
+impl<T> Value<T> {
+    fn content(&self) -> &T {
+        match self {
+            Value::Found(content) | Value::Wanted(content) => content,
+        }
+    }
+}
+
+impl<T: PartialEq> PartialEq for Value<T> {
+    fn eq(&self, other: &Value<T>) -> bool {
+        self.content() == other.content()
+    }
+}
+
+fn same<T: PartialEq + Debug>(check: &mut Check, input: impl Fn() -> String, found: T, wanted: T) {
+    check.same(input, Value::Found(found), Value::Wanted(wanted));
+}
+
+fn readable(bytes: Vec<u8>) -> String {
+    String::from_utf8_lossy(&bytes).into_owned()
+}
+
+fn binary(text: &str) -> Result<Hex, String> {
+    text::read(text.as_bytes()).map(|input| Hex(input.bytes()))
+}
+
+/// The bytes of the text of the bytes.
+fn again(bytes: &[u8]) -> Result<Hex, String> {
+    Input::from_bytes(bytes).and_then(|input| text::write(&input)).and_then(|text| binary(&text))
+}
+
+/// The text as it is written once it is read.
+fn written(text: &str) -> Result<String, String> {
+    text::read(text.as_bytes()).and_then(|input| text::write(&input))
+}
+
+fn words_of(text: &str, output: &str) -> Result<String, String> {
+    text::read(text.as_bytes()).and_then(|input| text::words(&input, output.as_bytes()))
+}
+
+/// Any classes, any ISINs that text can hold and events of all kinds with any fields.
+fn random_input(random: &mut Random, securities: usize, events: usize) -> Input {
+    let register = (0..securities).map(|_| random_security(random)).collect();
+    let mut events_of_kinds = Vec::new();
+    for _ in 0..events {
+        let kind = random.between(1, 9) as u8;
+        events_of_kinds.push(random_event(random, kind));
+    }
+    Input { register, events: events_of_kinds }
+}
+
+fn random_security(random: &mut Random) -> Security {
+    let signs: Vec<u8> = (0..128).filter(|&byte: &u8| !char::from(byte).is_whitespace()).collect();
+    let class = random.byte();
+    // `#` also begins comments, so it is to be frequent.
+    let isin = std::array::from_fn(|_| if random.one_in(4) { b'#' } else { random.pick(&signs) });
+    (class, isin)
+}
+
+/// The same input in another spelling: comments, blanks, group signs, and closes counted.
+fn respelled(random: &mut Random, plain: &str) -> String {
+    let mut spelling = String::new();
+    let mut lines = plain.lines().peekable();
+    while let Some(line) = lines.next() {
+        let mut closes = 1;
+        while line == "close" && random.one_in(2) && lines.next_if_eq(&line).is_some() {
+            closes += 1;
+        }
+        spelling += random.pick(&["", "", "\n", "# close 7\n", "  #\r\n"]);
+        spelling += random.pick(&["", " ", "\t"]);
+        spelling += &match line.split_once(' ') {
+            None if closes == 1 => line.to_string(),
+            None => format!("{line} {closes}"),
+            // An ISIN has no other spelling.
+            Some(("security", _)) => line.to_string(),
+            Some((word, numbers)) => format!("{word} {}", regrouped(random, numbers)),
+        };
+        spelling += random.pick(&["", " ", "\t# close 7", " #", "\r"]);
+        spelling.push('\n');
+    }
+    spelling
+}
+
+/// The numbers, some with group signs, with any blanks between them.
+fn regrouped(random: &mut Random, numbers: &str) -> String {
+    let mut spelling = String::new();
+    for number in numbers.split(' ') {
+        let sign = random.pick(&["", "_", ","]);
+        for (at, digit) in number.chars().enumerate() {
+            if at > 0 && (number.len() - at) % 3 == 0 {
+                spelling += sign;
+            }
+            spelling.push(digit);
+        }
+        spelling += random.pick(&[" ", "  ", "\t"]);
+    }
+    spelling
+}

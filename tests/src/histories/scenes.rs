@@ -1,0 +1,268 @@
+//! Whole histories, each as an input of the player.
+
+use super::fitting::number;
+use super::registers::{different, with_classes};
+use super::{damaged, random_event, History};
+use crate::book::{MEMBERS, MOST_ATTEMPTS, MOST_TRADES};
+use crate::events::{Event, MOST_EVENTS};
+use crate::random::Random;
+use std::collections::HashSet;
+
+/// Any input, most often of a few hundred events at most.
+pub fn any(random: &mut Random) -> Vec<u8> {
+    let limit = random.pick(&[5, 20, 60, 60, 150, 150, 400]);
+    match random.below(20) {
+        0 => tiny(random),
+        1 => random_fields(random),
+        2..=5 => {
+            let limit = random.pick(&[0, 1, 3, 10, 30]);
+            let input = market(random, limit);
+            damaged(random, input)
+        }
+        6 | 7 => many_attempts(random),
+        8 => many_pieces(random, 100),
+        9 | 10 => waiting(random, limit),
+        _ => market(random, limit),
+    }
+}
+
+/// A history of many trades or of as many events as a file takes; one in four is of the same shape.
+pub fn long(random: &mut Random, which: usize) -> Vec<u8> {
+    match which % 4 {
+        0 => full_book(random),
+        1 => many_pieces(random, MOST_TRADES - 1),
+        2 => waiting(random, MOST_EVENTS),
+        _ => market(random, MOST_EVENTS),
+    }
+}
+
+/// For the benchmark: as many events as a file takes, of every kind.
+pub fn mixed(random: &mut Random) -> Vec<u8> {
+    let register = with_classes(random, &[1, 1, 1, 1, 1, 1, 2, 3]);
+    let mut history = History::new(random, register, MOST_EVENTS);
+    history.run_busy_market();
+    history.input()
+}
+
+/// For the benchmark: 1,024 positions, each short settled in cash. In each security the largest short goes first, and
+/// takes a piece of every long.
+pub fn full_book_in_cash(random: &mut Random) -> Vec<u8> {
+    const SECURITIES: usize = 32;
+    let register = with_classes(random, &[1; SECURITIES]);
+    let mut history = History::new(random, register, MOST_EVENTS);
+    let sellers = MOST_TRADES / SECURITIES;
+    for seller in 1..=sellers {
+        for security in 0..SECURITIES {
+            let quantity = if seller == 1 { 100_000 } else { history.random.between(1, 100) as u32 };
+            let buyer = MEMBERS + 1 - seller;
+            let (seller, buyer) = (seller as u8, buyer as u8);
+            history.play(Event::Trade { security: number(security), seller, buyer, quantity, price: 1_000 });
+        }
+    }
+    for security in 0..SECURITIES {
+        history.play(Event::Price { security: number(security), price: 1_100 });
+    }
+    history.close(2 + 8);
+    // Positions are numbered by member, so member 1, with the largest shorts, comes first.
+    for at in 0..MOST_TRADES {
+        history.play(Event::Cash { short: number(at) });
+    }
+    history.input()
+}
+
+/// For the benchmark: closes on a book whose shorts are late and have a price.
+pub fn closes(random: &mut Random, closes: u16) -> Vec<u8> {
+    let register = with_classes(random, &[1; 4]);
+    let mut history = History::new(random, register, MOST_EVENTS);
+    for security in 0..4 {
+        history.play(Event::Price { security: number(security), price: 1_100 });
+    }
+    while history.events.len() < MOST_EVENTS - usize::from(closes) {
+        history.try_to_play(History::fitting_trade);
+    }
+    history.close(closes);
+    history.input()
+}
+
+/// An input whose last call is most often a discharge. `closes` closes are to come before its first event.
+pub fn discharge_on_day(random: &mut Random, closes: u32) -> Vec<u8> {
+    let limit = random.between(1, 120);
+    let mut history = some_history(random, limit);
+    history.close_before(closes);
+    history.run_market();
+    history.limit += 100;
+    if history.random.one_in(2) {
+        history.hold_auction();
+        history.confirm();
+    }
+    let event = match history.random.below(6) {
+        0 => history.fitting_confirmation().or_else(|| history.fitting_cash()),
+        1 => history.second_confirmation().or_else(|| history.fitting_delivery()),
+        2 => history.fitting_cash(),
+        3 => history.fitting_delivery(),
+        4 => Some(history.arbitrary_discharge()),
+        _ => Some(history.contrary()),
+    };
+    let event = event.unwrap_or(Event::Close);
+    history.play(event);
+    history.input()
+}
+
+fn some_history(random: &mut Random, limit: usize) -> History<'_> {
+    let securities = random.pick(&[1, 1, 2, 3, 5, 32]);
+    let register = different(random, securities);
+    let mut history = History::new(random, register, limit);
+    history.traders = history.random.pick(&[2, 3, 5, 10, MEMBERS]);
+    if history.random.one_in(2) {
+        history.unpriced = Some(history.random.below(securities));
+    }
+    history
+}
+
+fn market(random: &mut Random, limit: usize) -> Vec<u8> {
+    let mut history = some_history(random, limit);
+    history.run_market();
+    history.input()
+}
+
+/// No event, or one.
+fn tiny(random: &mut Random) -> Vec<u8> {
+    let limit = random.below(2);
+    let mut history = some_history(random, limit);
+    let event = history.arbitrary();
+    history.play(event);
+    history.input()
+}
+
+fn random_fields(random: &mut Random) -> Vec<u8> {
+    let limit = random.pick(&[10, 100]);
+    let mut history = some_history(random, limit);
+    while !history.is_full() {
+        // Closes would be most of what is accepted.
+        let kind = history.random.between(1, 8) as u8;
+        let event = random_event(history.random, kind);
+        history.play(event);
+    }
+    history.input()
+}
+
+/// More shorts in their attempt window on one day than may be attempted, some of them without a price.
+fn many_attempts(random: &mut Random) -> Vec<u8> {
+    let class = random.between(1, 3) as u8;
+    let register = with_classes(random, &[class; 3]);
+    let mut history = History::new(random, register, 400);
+    history.unpriced = Some(2);
+    let sellers = history.random.between(MOST_ATTEMPTS + 4, 35) as u8;
+    for seller in 1..=sellers {
+        let security = history.random.pick(&[1, 1, 1, 2, 2, 2, 2, 3]);
+        let (quantity, price) = (history.quantity(), history.price_near_latest(0));
+        history.play(Event::Trade { security, seller, buyer: MEMBERS as u8, quantity, price });
+    }
+    for security in [1, 2] {
+        let price = history.price_near_latest(0);
+        history.play(Event::Price { security, price });
+    }
+    let days = if class == 1 { history.random.between(5, 7) } else { history.random.pick(&[27, 37]) };
+    history.close(2 + days as u16);
+    for _ in 0..MOST_ATTEMPTS {
+        history.try_to_play(History::fitting_attempt);
+        match history.random.below(8) {
+            0 => history.fill_auction(),
+            offers => (0..offers / 2).for_each(|_| history.try_to_play(History::fitting_offer)),
+        }
+        history.try_to_play(History::fitting_award);
+        if history.random.one_in(2) {
+            history.try_to_play(History::fitting_confirmation);
+        }
+    }
+    for short in 1..=u16::from(sellers) {
+        history.play(Event::Attempt { short });
+    }
+    history.run_market();
+    history.input()
+}
+
+/// One member sells to many in one security over several days, another sells a large quantity last: its discharge is
+/// dealt out in a piece for nearly every trade.
+fn many_pieces(random: &mut Random, trades: usize) -> Vec<u8> {
+    let class = random.between(1, 3) as u8;
+    let register = with_classes(random, &[class]);
+    let mut history = History::new(random, register, MOST_EVENTS);
+    for trade in 0..trades {
+        let buyer = (3 + trade % (MEMBERS - 2)) as u8;
+        let quantity = history.random.between(1, 3) as u32;
+        let price = history.price_near_latest(0);
+        history.play(Event::Trade { security: 1, seller: 1, buyer, quantity, price });
+        if usize::from(buyer) == MEMBERS {
+            history.play(Event::Close);
+        }
+    }
+    let price = history.price_near_latest(0);
+    history.play(Event::Trade { security: 1, seller: 2, buyer: 3, quantity: 1_000_000, price });
+    history.play(Event::Price { security: 1, price });
+    history.play(Event::Close);
+    let large = history.pick_short(|book, at| book.positions[at].member == 2);
+    history.close(if class == 1 { 1 + 8 } else { 1 + 30 });
+    if let Some(at) = large {
+        let delivered = history.random.between(0, trades / 5) as u32;
+        history.play(Event::Delivery { short: number(at), quantity: delivered });
+        history.play(Event::Cash { short: number(at) });
+    }
+    history.limit = history.limit.min(history.events.len() + 100);
+    history.run_market();
+    history.input()
+}
+
+/// Trades on one day, then long waits for the windows of classes 2 and 3, which come again.
+fn waiting(random: &mut Random, limit: usize) -> Vec<u8> {
+    let classes = random.pick(&[[2, 3], [3, 2], [2, 2], [3, 3]]);
+    let register = with_classes(random, &classes);
+    let mut history = History::new(random, register, limit);
+    history.traders = history.random.between(2, 6);
+    for _ in 0..history.random.between(1, 8) {
+        history.try_to_play(History::fitting_trade);
+    }
+    for security in [1, 2] {
+        let price = history.price_near_latest(0);
+        history.play(Event::Price { security, price });
+    }
+    history.close(2 + 27);
+    for _ in 0..history.random.below(3) {
+        history.try_to_play(History::fitting_attempt);
+        history.try_to_play(History::fitting_offer);
+        history.try_to_play(History::fitting_award);
+        history.close(10);
+    }
+    history.run_market();
+    history.input()
+}
+
+/// As many trades as a book holds, each of which makes two positions, and one more.
+pub fn full_book(random: &mut Random) -> Vec<u8> {
+    let securities = random.pick(&[24, 32]);
+    let register = different(random, securities);
+    let mut history = History::new(random, register, MOST_EVENTS);
+    let a_day = history.random.pick(&[100, 200, MOST_TRADES]);
+    let mut used = HashSet::new();
+    while history.book.trades.len() < MOST_TRADES {
+        let Some(event) = history.fitting_trade() else { break };
+        let Event::Trade { security, seller, buyer, .. } = event else { break };
+        // A second trade of a member in a security would be netted with the first.
+        if used.contains(&(security, seller)) || used.contains(&(security, buyer)) {
+            continue;
+        }
+        used.extend([(security, seller), (security, buyer)]);
+        history.play(event);
+        if history.book.trades.len().is_multiple_of(a_day) {
+            history.play(Event::Close);
+            used.clear();
+        }
+    }
+    history.play(Event::Trade { security: 1, seller: 1, buyer: 2, quantity: 1, price: 1 });
+    for security in 0..securities {
+        let price = history.price_near_latest(security);
+        history.play(Event::Price { security: number(security), price });
+    }
+    history.run_market();
+    history.input()
+}

@@ -1,0 +1,250 @@
+//! Counts the states that histories reach, so that a comparison can want each of them.
+
+use crate::book::{Answer, Auction, Award, Book, Piece, Position, Side, MOST_ATTEMPTS, SHEET_PLACES};
+use crate::charges;
+use crate::events::{Event, MOST_EVENTS};
+use crate::refusal::Refusal;
+use crate::transcript::open;
+
+/// The times each state was reached.
+pub struct Survey {
+    times: [u64; State::WORDS.len()],
+}
+
+macro_rules! states {
+    ($($state:ident $words:literal,)*) => {
+        #[derive(Clone, Copy)]
+        enum State { $($state,)* }
+
+        impl State {
+            const WORDS: [&'static str; [$($words),*].len()] = [$($words),*];
+        }
+    };
+}
+
+states! {
+    NoEvents "a file without events",
+    MostEvents "a file of 2,048 events",
+    PartDelivery "a delivery in part",
+    AwardedUnits "a delivery refused because of awards",
+    ThreePieces "a discharge in three pieces or more",
+    ManyPieces "a discharge in 400 pieces or more",
+    OneMember "a piece with one member on both sides",
+    TwoDays "a piece between positions of two delivery days",
+    Attempt1 "an attempt in class 1",
+    FirstAttempt2 "an attempt at r 27 in class 2",
+    FirstAttempt3 "an attempt at r 27 in class 3",
+    LaterAttempt2 "an attempt at r 37 or later in class 2",
+    LaterAttempt3 "an attempt at r 37 or later in class 3",
+    SecondAuction "a second auction on one day",
+    SixteenAuctions "sixteen auctions on one day",
+    NoOffers "an award without offers",
+    PartAward "an award that takes an offer in part",
+    LeftOver "offers left over at an award",
+    TieDecides "two offers of one price, of which only the earlier is taken whole",
+    NotMet "offers that do not meet the open quantity",
+    Dearer "an award confirmed above the reference price",
+    Cheaper "an award confirmed below the reference price",
+    Fine1 "a failed award in class 1",
+    Fine2 "a failed award in class 2",
+    Fine3 "a failed award in class 3",
+    HighFine "a failed award that costs more than the least",
+    Late "a late short that is fined",
+    LateUnpriced "a late short of class 1 without a price",
+    TwoShorts "a member with two open shorts in a security",
+    Cash1 "cash settlement in class 1",
+    FirstCash2 "cash settlement before r 40 in class 2",
+    LaterCash2 "cash settlement at r 40 or later in class 2",
+    FirstCash3 "cash settlement before r 40 in class 3",
+    LaterCash3 "cash settlement at r 40 or later in class 3",
+    LeastFee "a cash settlement at the least fee",
+    MiddleFee "a cash settlement at a fee between the limits",
+    RoundedUpFee "a cash settlement at a fee that is rounded up",
+    GreatestFee "a cash settlement at the greatest fee",
+    ShortReference "a cash price that is the short's reference price",
+    LongReference "a cash price that is the long's reference price",
+    RaisedPrice "a cash price that is above both reference prices",
+    NettedToNothing "a member that bought what it sold on one day",
+    NettedInPart "a member that bought and sold different quantities on one day",
+    MostPositions "a book of 1,024 positions",
+}
+
+impl Default for Survey {
+    fn default() -> Survey {
+        Survey { times: [0; State::WORDS.len()] }
+    }
+}
+
+impl Survey {
+    pub fn times(&self) -> impl Iterator<Item = (&'static str, u64)> + '_ {
+        State::WORDS.into_iter().zip(self.times.iter().copied())
+    }
+
+    /// Adds the states that a history goes through; an input that is refused has none.
+    pub fn add(&mut self, input: &[u8]) {
+        let Ok((mut book, events)) = open(input) else {
+            return;
+        };
+        self.reach_if(events.is_empty(), State::NoEvents);
+        self.reach_if(events.len() == MOST_EVENTS, State::MostEvents);
+        for event in &events {
+            self.call(&mut book, event);
+        }
+        self.reach_if(book.positions.len() == 1_024, State::MostPositions);
+    }
+
+    fn reach_if(&mut self, holds: bool, state: State) {
+        self.times[state as usize] += u64::from(holds);
+    }
+
+    fn call(&mut self, book: &mut Book, event: &Event) {
+        // What the call is about to change.
+        match event {
+            Event::Award { short } => self.award(book, usize::from(*short)),
+            Event::Close if book.auction.is_none() => self.close(book),
+            _ => {}
+        }
+        let result = book.call(event, SHEET_PLACES);
+        match (*event, &result) {
+            (Event::Delivery { short, quantity }, Err(Refusal::NotFree)) => {
+                let open = position(book, short).open();
+                self.reach_if(quantity <= open, State::AwardedUnits);
+            }
+            (Event::Delivery { short, .. }, Ok(answer)) => {
+                self.reach_if(position(book, short).open() > 0, State::PartDelivery);
+                self.pieces(book, answer);
+            }
+            (Event::Attempt { short }, Ok(_)) => self.attempt(book, position(book, short)),
+            (Event::Confirm { award }, Ok(answer)) => {
+                let award = &book.awards[usize::from(award) - 1];
+                let reference = book.positions[award.short].reference_price;
+                self.reach_if(award.price > reference, State::Dearer);
+                self.reach_if(award.price < reference, State::Cheaper);
+                self.pieces(book, answer);
+            }
+            (Event::Cash { short }, Ok(answer)) => {
+                self.cash(book, position(book, short), answer);
+                self.pieces(book, answer);
+            }
+            _ => {}
+        }
+    }
+
+    fn pieces(&mut self, book: &Book, answer: &Answer) {
+        self.reach_if(answer.pieces.len() >= 3, State::ThreePieces);
+        self.reach_if(answer.pieces.len() >= 400, State::ManyPieces);
+        for piece in &answer.pieces {
+            let (short, long) = (position(book, piece.short), position(book, piece.long));
+            self.reach_if(short.member == long.member, State::OneMember);
+            self.reach_if(short.delivery_day != long.delivery_day, State::TwoDays);
+        }
+    }
+
+    fn attempt(&mut self, book: &Book, short: &Position) {
+        match (book.securities[short.security].class, short.r(book.day)) {
+            (1, _) => self.reach_if(true, State::Attempt1),
+            (2, Some(27)) => self.reach_if(true, State::FirstAttempt2),
+            (2, _) => self.reach_if(true, State::LaterAttempt2),
+            (_, Some(27)) => self.reach_if(true, State::FirstAttempt3),
+            _ => self.reach_if(true, State::LaterAttempt3),
+        }
+        self.reach_if(book.attempts.len() == 2, State::SecondAuction);
+        self.reach_if(book.attempts.len() == MOST_ATTEMPTS, State::SixteenAuctions);
+    }
+
+    /// An award that is about to end the auction on this short.
+    fn award(&mut self, book: &Book, short: usize) {
+        let Some(Auction { offers, .. }) = book.auction.as_ref().filter(|auction| auction.short + 1 == short) else {
+            return;
+        };
+        let open = u64::from(book.positions[short - 1].open());
+        let offered: u64 = offers.iter().map(|offer| u64::from(offer.quantity)).sum();
+        self.reach_if(offers.is_empty(), State::NoOffers);
+        self.reach_if((1..open).contains(&offered), State::NotMet);
+        let mut taken = 0;
+        let mut sorted = offers.clone();
+        sorted.sort_by_key(|offer| offer.price);
+        for (at, offer) in sorted.iter().enumerate() {
+            let quantity = u64::from(offer.quantity);
+            self.reach_if(taken < open && taken + quantity > open, State::PartAward);
+            self.reach_if(taken >= open, State::LeftOver);
+            let tie = at > 0 && sorted[at - 1].price == offer.price;
+            self.reach_if(tie && taken <= open && taken + quantity > open, State::TieDecides);
+            taken += quantity;
+        }
+    }
+
+    fn cash(&mut self, book: &Book, short: &Position, answer: &Answer) {
+        let security = &book.securities[short.security];
+        let latest = security.latest_price.expect("cash settlement needs a price");
+        let early = short.r(book.day).is_some_and(|r| r < 40);
+        let state = match (security.class, early) {
+            (1, _) => State::Cash1,
+            (2, true) => State::FirstCash2,
+            (2, false) => State::LaterCash2,
+            (_, true) => State::FirstCash3,
+            (_, false) => State::LaterCash3,
+        };
+        self.reach_if(true, state);
+        let value = u64::from(answer.quantity) * u64::from(latest);
+        let fee = charges::cash_fee(value);
+        self.reach_if(fee == 25_000, State::LeastFee);
+        self.reach_if(fee == 100_000, State::GreatestFee);
+        self.reach_if((25_001..100_000).contains(&fee), State::MiddleFee);
+        self.reach_if((25_001..100_000).contains(&fee) && fee > value / 40_000, State::RoundedUpFee);
+        for &Piece { long, quantity, cents, .. } in &answer.pieces {
+            let price = cents / u64::from(quantity);
+            let [short, long] = [short, position(book, long)].map(|position| u64::from(position.reference_price));
+            self.reach_if(price == short && short > long, State::ShortReference);
+            self.reach_if(price == long && long > short, State::LongReference);
+            self.reach_if(price > short.max(long), State::RaisedPrice);
+        }
+    }
+
+    /// A close that is about to happen.
+    fn close(&mut self, book: &Book) {
+        for award in book.awards.iter().filter(|award| !award.confirmed) {
+            self.failed_award(book, award);
+        }
+        for (at, short) in book.positions.iter().enumerate().filter(|(_, position)| is_late(book, position)) {
+            let security = &book.securities[short.security];
+            if security.class == 1 {
+                self.reach_if(security.latest_price.is_none(), State::LateUnpriced);
+                let value = u64::from(short.open()) * u64::from(security.latest_price.unwrap_or(0));
+                self.reach_if(charges::late_fine(value) > 0, State::Late);
+            }
+            let mut others = security.shorts.iter().filter(|&&other| other != at).map(|&other| &book.positions[other]);
+            self.reach_if(others.any(|other| other.member == short.member && other.open() > 0), State::TwoShorts);
+        }
+        let todays = book.todays_trades();
+        for (member, security) in todays.iter().map(|trade| (trade.seller, trade.security)) {
+            let total = |is_side: &dyn Fn(u8, u8) -> bool| -> u64 {
+                let trades = todays.iter().filter(|trade| trade.security == security);
+                trades.filter(|trade| is_side(trade.seller, trade.buyer)).map(|trade| u64::from(trade.quantity)).sum()
+            };
+            let (sold, bought) = (total(&|seller, _| seller == member), total(&|_, buyer| buyer == member));
+            self.reach_if(sold == bought, State::NettedToNothing);
+            self.reach_if(bought > 0 && sold != bought, State::NettedInPart);
+        }
+    }
+
+    fn failed_award(&mut self, book: &Book, award: &Award) {
+        let security = &book.securities[book.positions[award.short].security];
+        let value = u64::from(award.quantity) * u64::from(security.latest_price.unwrap_or(0));
+        let state = match security.class {
+            1 => State::Fine1,
+            2 => State::Fine2,
+            _ => State::Fine3,
+        };
+        self.reach_if(true, state);
+        self.reach_if(charges::award_fine(security.class, value) > 100_000, State::HighFine);
+    }
+}
+
+fn position(book: &Book, number: u16) -> &Position {
+    &book.positions[usize::from(number) - 1]
+}
+
+fn is_late(book: &Book, position: &Position) -> bool {
+    position.side == Side::Short && position.open() > 0 && position.is_due(book.day)
+}
