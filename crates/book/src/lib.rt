@@ -16,8 +16,9 @@ ghost use lib.Dec.{eqb};
 ghost use Rattle.rules.specs.Windows.{stepOn, stepKind};
 ghost use Rattle.book.specs.Auctions.{Done, ceilingOn, runsOn, awardRefusal, attemptRefusal, offerRefusal, auctionRefusal};
 ghost use Rattle.book.specs.Closing.{closeRefusal};
-ghost use Rattle.book.specs.Stepping.{WithoutPieces, Stepped};
+ghost use Rattle.book.specs.Stepping.{WithoutPieces, Stepped, isDischarge};
 ghost use Rattle.events.specs.declared.Event.the-variants as event;
+ghost use Rattle.plain.specs.declared.Outcome.the-variants as outcome;
 ghost use Rattle.tables.specs.Tables as tables;
 ghost use Rattle.book.specs.Discharging as discharging;
 use events::Attempt;
@@ -1065,5 +1066,47 @@ pub fn step(book: Book, sheet: usize, e: Event) -> Discharged
         Event::Confirm(c) => confirm(book, sheet, c),
         Event::Cash(c) => cash(book, sheet, c),
         Event::Close => without_pieces(close(book)),
+    }
+}
+
+// Deliveries, confirmations and cash settlements write their pieces on a sheet; the other calls have none.
+pub fn is_discharge(e: Event) -> bool
+    ensures { λ r. ⌜ r ≡ isDischarge e ⌝ }
+{
+    match e {
+        Event::Trade(_) => false,
+        Event::Price(_) => false,
+        Event::Delivery(_) => true,
+        Event::Attempt(_) => false,
+        Event::Offer(_) => false,
+        Event::Award(_) => false,
+        Event::Confirm(_) => true,
+        Event::Cash(_) => true,
+        Event::Close => false,
+    }
+}
+
+fn without_places(book: Book) -> Answered
+    ensures { λ r. ⌜ (r .book ≡ book) × (r .outcome ≡ outcome.Refused 8) ⌝ }
+{
+    let outcome = Outcome::Refused(SMALL_SHEET);
+    Answered { book, outcome }
+}
+
+// One event, where no sheet is lent: no table of pieces is made. A discharge is refused.
+pub fn step_without_sheet(book: Book, e: Event) -> Answered
+    requires { ⌜ Valid book ⌝ }
+    ensures { λ r. ⌜ Returned book (call e 0) (r .book) (r .outcome) [] ⌝ }
+{
+    match e {
+        Event::Trade(t) => trade(book, t),
+        Event::Price(p) => price(book, p),
+        Event::Delivery(_) => without_places(book),
+        Event::Attempt(a) => attempt(book, a),
+        Event::Offer(o) => offer(book, o),
+        Event::Award(a) => award(book, a),
+        Event::Confirm(_) => without_places(book),
+        Event::Cash(_) => without_places(book),
+        Event::Close => close(book),
     }
 }

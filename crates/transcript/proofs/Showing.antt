@@ -2,10 +2,12 @@
 use Prim.Native.Nat.{ℕ, _+_, _-_, _*_, _≤_, _<_, min}
 use native.Mathlib.Omega.{arith}
 use mathlib.Core.Path.{_≡_, refl, ap, sym, _∙_, subst}
-use mathlib.Core.List.{List, [], _++_}
+use mathlib.Core.List.{List, [], _++_, append-nil}
+use mathlib.Core.Bool.{false}
 use lib.Dec.{ltb}
 use borrow.Author.Tests.{ltb-true, ltb-false}
 use lib.ListN.{length, getD, take, drop}
+use Rattle.laws.specs.Lists.{each}
 use Rattle.laws.specs.Asked.{Said, passed, failed, ask}
 use Rattle.events.specs.declared.Event.{Event}
 use Rattle.events.specs.declared.Event.the-variants as event
@@ -13,11 +15,15 @@ use Rattle.events.specs.File.{eventsOf}
 use Rattle.plain.specs.declared.Outcome.{Outcome}
 use Rattle.plain.specs.declared.Piece.{Piece}
 use Rattle.plain.specs.Calls.{call}
+use Rattle.plain.specs.Refusals as plain
+use Rattle.plain.specs.Histories as histories
 use Rattle.plain.specs.Histories.{run}
 use Rattle.book.specs.declared.Book.{Book}
 use Rattle.book.specs.View.{view, Valid, Returned, numberOf, quantityOf}
+use Rattle.book.specs.Stepping.{isDischarge}
+use Rattle.book.proofs.Stepping.{other-sheet, any-sheet}
 use Rattle.replay.specs.Replay.{callsOf}
-use Rattle.report.specs.Lines.{LINE, eventLines}
+use Rattle.report.specs.Lines.{LINE, eventLine, pieceLine, pieceLines, eventLines}
 use Rattle.report.specs.Pages.{Put, Wrote, wrote-put, put-lent, put-text, put-none, put-length, lent, back, length-lent}
 use Rattle.transcript.specs.declared.Shown.{Shown}
 use Rattle.transcript.specs.Transcript.{eventText, eventsText}
@@ -32,6 +38,23 @@ pub shown : (b after : Book) (e : Event) (number : ℕ) (o : Outcome) (items : L
 unfolding eventText
 shown b after e number o items count refusal quantity used entry exit r n q room w =
     let text : eventLines number refusal quantity (take count items) ≡ eventText (view b) number e = rw (n ∙ r .number, q ∙ r .quantity, r .pieces) in
+    record {
+      text = put-text _ _ entry exit used text (wrote-put _ _ entry exit used (omega (arith, room)) w);
+      fits = omega (arith, w .most);
+      book = r .book;
+      valid = r .valid;
+    }
+
+-- the same of an event whose call has no sheet and hands out no pieces
+pub shown-entry : (b after : Book) (e : Event) (number : ℕ) (o : Outcome) (refusal quantity used : ℕ) (entry exit : List ℕ)
+    → Returned b (call e 0) after o [] → isDischarge e ≡ false → refusal ≡ numberOf o → quantity ≡ quantityOf o → BLOCK ≤ length entry
+    → Wrote LINE (eventLine number refusal quantity) entry exit used
+    → ShownOn b e number entry exit (record { book = after; used = used })
+unfolding eventText eventLines pieceLines
+shown-entry b after e number o refusal quantity used entry exit h plainly n q room w =
+    let r = other-sheet b e 0 1024 (any-sheet (view b) e 0 1024 plainly) after o [] h in
+    let line : eventLine number refusal quantity ≡ eventLine number (plain.refusal (view b) (call e 1024)) (histories.quantity (view b) (call e 1024)) = rw (n ∙ r .number, q ∙ r .quantity) in
+    let text : eventLine number refusal quantity ≡ eventText (view b) number e = line ∙ sym (append-nil _) ∙ ap (λ (xs : List Piece). eventLine number (plain.refusal (view b) (call e 1024)) (histories.quantity (view b) (call e 1024)) ++ each pieceLine xs) (r .pieces) in
     record {
       text = put-text _ _ entry exit used text (wrote-put _ _ entry exit used (omega (arith, room)) w);
       fits = omega (arith, w .most);

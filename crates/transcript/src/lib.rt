@@ -1,9 +1,11 @@
 // What the player prints for an input, in blocks that are written into a lent page. Document 01, 'Event files and the player'.
 ghost use mathlib.Core.Path.{_≡_};
+ghost use mathlib.Core.Bool.{false};
 ghost use Prim.Native.Nat.{_≤_, min};
 ghost use lib.ListN.{length};
 ghost use Rattle.events.specs.File.{eventsOf, refusal};
 ghost use Rattle.book.specs.View.{view, Valid, numberOf, quantityOf};
+ghost use Rattle.book.specs.Stepping.{isDischarge};
 ghost use Rattle.report.specs.Pages.{Wrote};
 ghost use Rattle.transcript.specs.Transcript.{registerLength, endText};
 ghost use Rattle.transcript.specs.Playing.{StartedOn, BLOCK, END, ShownOn, PlayedOn};
@@ -97,8 +99,22 @@ fn quantity_of(outcome: Outcome) -> u32
     }
 }
 
-// One event: the call that it makes, and its lines.
-fn play_event(page: &mut [u8], book: Book, e: Event, number: u32) -> Shown
+// An event whose call has no sheet, and its line.
+fn play_entry(page: &mut [u8], book: Book, e: Event, number: u32) -> Shown
+    requires { ⌜ (Valid book) × (isDischarge e ≡ false) × (BLOCK ≤ length (now page)) ⌝ }
+    ensures { λ r. ⌜ ShownOn book e number (now (page .entry)) (now (page .exit)) r ⌝ }
+{
+    let answered = book::step_without_sheet(book, e);
+    let outcome = answered.outcome;
+    let after = answered.book;
+    let refusal = number_of(outcome);
+    let quantity = quantity_of(outcome);
+    let used = report::event_line(page, number, refusal, quantity);
+    Shown { book: after, used }
+}
+
+// An event whose call is lent a sheet, and its lines.
+fn play_discharge(page: &mut [u8], book: Book, e: Event, number: u32) -> Shown
     requires { ⌜ (Valid book) × (BLOCK ≤ length (now page)) ⌝ }
     ensures { λ r. ⌜ ShownOn book e number (now (page .entry)) (now (page .exit)) r ⌝ }
 {
@@ -111,6 +127,17 @@ fn play_event(page: &mut [u8], book: Book, e: Event, number: u32) -> Shown
     let quantity = quantity_of(outcome);
     let used = report::event_lines(page, number, refusal, quantity, items, stepped.count);
     Shown { book: after, used }
+}
+
+// One event: the call that it makes, and its lines. A sheet is made for a discharge alone.
+fn play_event(page: &mut [u8], book: Book, e: Event, number: u32) -> Shown
+    requires { ⌜ (Valid book) × (BLOCK ≤ length (now page)) ⌝ }
+    ensures { λ r. ⌜ ShownOn book e number (now (page .entry)) (now (page .exit)) r ⌝ }
+{
+    if book::is_discharge(e) {
+        return play_discharge(page, book, e, number);
+    }
+    play_entry(page, book, e, number)
 }
 
 // Events of a file, from a place on, as long as the page has room for one more with all its pieces.

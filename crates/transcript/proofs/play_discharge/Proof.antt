@@ -1,4 +1,4 @@
--- `transcript::play_event` meets its contract.
+-- `transcript::play_discharge` meets its contract.
 use Prim.Native.Nat.{ℕ}
 use mathlib.Core.Path.{subst}
 use lib.ListN.{take}
@@ -7,8 +7,8 @@ use Rattle.plain.specs.Calls.{call}
 use Rattle.book.specs.View.{Returned}
 use Rattle.transcript.proofs.Showing.{shown}
 use borrow.Author.Needs.{needs}
-use Rattle.transcript.proofs.play_event.Statement.{statement}
-use Rattle.transcript.proofs.play_event.Tie as tie
+use Rattle.transcript.proofs.play_discharge.Statement.{statement}
+use Rattle.transcript.proofs.play_discharge.Tie as tie
 
 blank-sheet-requires : tie.Need-blank-sheet-requires
 blank-sheet-requires c κs = search needs
@@ -40,8 +40,8 @@ returns c =
     shown (a .book) (r .book) (a .e) (a .number) (r .outcome) (r .items) (r .count) (q .before .number-of .result) (q .quantity-of .result) (w .event-lines .result)
     (now (a .page)) (w .event-lines .last .0) returned (q .before .number-of .ensures) (q .quantity-of .ensures) (b .before .before .pre .1) (w .event-lines .ensures)
 
-pub play-event-spec : {M : Type 1} → statement M
-play-event-spec =
+pub play-discharge-spec : {M : Type 1} → statement M
+play-discharge-spec =
     tie.close
     (tie.spec
     blank-sheet-requires
