@@ -11,9 +11,9 @@ use lib.Seq.{length-take-le, take-suc-set, getD-take}
 use lib.Dec.{ltb, leb, eqb}
 use borrow.Author.Tests.{eqb-true, leb-false, lt-ltb, not-false}
 use Rattle.laws.specs.Lists.{only, sum, some}
-use Rattle.laws.specs.Asked.{and-left, and-right, or-left}
+use Rattle.laws.specs.Asked.{and-left, and-right, or-left, within-low, within-high, within}
 use Rattle.laws.specs.Alls.{all-of, all-at}
-use Rattle.laws.specs.Refusals.{first, none-applies, first-past, first-there}
+use Rattle.laws.specs.Refusals.{first, none-applies, first-past, first-there, here, past}
 use Rattle.rules.specs.Windows.{stepOn}
 use Rattle.rules.specs.Prices.{ceiling}
 use Rattle.rules.specs.declared.Step.{Step}
@@ -40,9 +40,7 @@ use Rattle.auction.specs.Members.{WithinWord}
 use Rattle.book.specs.declared.Book.{Book}
 use Rattle.book.specs.declared.Answered.{Answered}
 use Rattle.book.specs.View.{view, Fits, Valid, numberOf, quantityOf, Returned}
-use Rattle.book.specs.Entering.{within}
 use Rattle.book.specs.Auctions.{Done, ceilingOn, runsOn, awardRefusal, attemptReasons, attemptRefusal, offerReasons, offerRefusal, auctionReasons, auctionRefusal, award-refusal-is, attempt-refusal-is, offer-refusal-is}
-use Rattle.book.proofs.Chosen.{here, past, within-low, within-high}
 use Rattle.book.proofs.Returns.{taken}
 
 -- a call whose event is done

@@ -13,7 +13,7 @@ use borrow.Author.Tests.{not-false, eq-eqb}
 use Rattle.laws.specs.Lists.{All, only, sum, number}
 use Rattle.laws.specs.Alls.{all-of, all-at, all-anywhere}
 use Rattle.laws.specs.Sums.{sum-map}
-use Rattle.laws.specs.Asked.{both}
+use Rattle.laws.specs.Asked.{both, within-low, within-high}
 use Rattle.laws.specs.Refusals.{Reason, choose, first, none-applies, first-past, first-there}
 use Rattle.events.specs.declared.Delivery.{Delivery}
 use Rattle.events.specs.declared.Confirm.{Confirm}
@@ -61,7 +61,6 @@ use Rattle.book.specs.declared.Discharged.{Discharged}
 use Rattle.book.specs.View.{view, Fits, Valid, numberOf, quantityOf, Returned}
 use Rattle.book.specs.Discharging.{lookupReasons, lookupRefusal, deliveryReasons, deliveryRefusal, delivery-refusal-is, confirmReasons, confirmRefusal, confirm-refusal-is, cashReasons, cashRefusal, cash-refusal-is, Terms, Dischargeable, Done, Refused}
 use Rattle.book.proofs.Returns as return
-use Rattle.book.proofs.Chosen.{within-low, within-high}
 
 -- Places in use
 

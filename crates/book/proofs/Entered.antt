@@ -8,6 +8,7 @@ use mathlib.Core.List.{List, [], _∷_, _++_}
 use lib.ListN.{length, take, set, length-set, length-drop}
 use lib.Seq.{length-take-le, take-suc-set, drop-append-le}
 use borrow.Author.Tests.{leb-false, not-false}
+use Rattle.laws.specs.Asked.{within-low, within-high, within}
 use Rattle.laws.specs.Refusals.{none-applies}
 use Rattle.events.specs.declared.Trade.{Trade}
 use Rattle.events.specs.declared.Price.{Price}
@@ -18,8 +19,7 @@ use Rattle.tables.specs.declared.Trades.{Trades}
 use Rattle.tables.specs.Tables as table
 use Rattle.book.specs.declared.Book.{Book}
 use Rattle.book.specs.View.{view, Fits}
-use Rattle.book.specs.Entering.{within, tradeReasons, tradeRefusal, priceReasons, priceRefusal, trade-refusal-is, price-refusal-is}
-use Rattle.book.proofs.Chosen.{within-low, within-high}
+use Rattle.book.specs.Entering.{tradeReasons, tradeRefusal, priceReasons, priceRefusal, trade-refusal-is, price-refusal-is}
 
 -- the trades of earlier days and of today are all that the table holds
 pub all-held : (t : Trades) → table.TradesFit t → t .netted + length (table.today t) ≡ t .count

@@ -9,14 +9,14 @@ use lib.Seq.{length-take-le, getD-take}
 use lib.Dec.{leb}
 use lib.IntN.{pos, negℤ, subℕ}
 use borrow.Author.Tests.{lt-ltb, le-ltb}
-use Rattle.laws.specs.Refusals.{accepted, accepted-zero, accepted-not}
+use Rattle.laws.specs.Asked.{within-low, within-high, within}
+use Rattle.laws.specs.Refusals.{accepted, accepted-zero, accepted-not, here, past}
 use Rattle.plain.specs.Book.{nth, there}
-use Rattle.book.specs.Entering.{within}
 use Rattle.book.specs.Reading.{notThere, noAccount}
-use Rattle.book.proofs.Chosen.{here, past, within-low, within-high}
 
 module _ {A : Type 0} (none : A) (items : List A) (count n : ℕ) (fits : count ≤ length items) where
   there-is : there (take count items) n ≡ within 1 count n
+  unfolding within
   there-is = ap (λ (k : ℕ). leb 1 n && leb n k) (length-take-le count items fits)
 
   pub missing : within 1 count n ≡ false

@@ -6,6 +6,7 @@ use mathlib.Core.List.{List, [], _∷_, _++_}
 use mathlib.Core.Bool.{Bool, not, _&&_, _||_}
 use lib.ListN.{length}
 use lib.Dec.{ltb, leb, eqb}
+use Rattle.laws.specs.Asked.{within}
 use Rattle.laws.specs.Lists.{some}
 use Rattle.laws.specs.Refusals.{Reason, _⇒_, first}
 use Rattle.rules.specs.Windows.{stepKind}
@@ -25,7 +26,6 @@ use Rattle.plain.specs.Refusals.{isMember, isQuantity, isPrice, stepToday, reas
 use Rattle.book.specs.declared.Book.{Book}
 use Rattle.book.specs.declared.Answered.{Answered}
 use Rattle.book.specs.View.{view, Fits}
-use Rattle.book.specs.Entering.{within}
 
 -- what an event that is accepted makes of the machine's book, and its quantity
 pub record Done (b : Book) (e : Event) (r : Answered) : Type 0 where
@@ -89,13 +89,13 @@ auctionRefusal fails ceiling offers price = first (auctionReasons fails ceiling 
 -- these are the plain book's
 module _ (b : plain.Book) (sheet : ℕ) where
   pub award-refusal-is : (a : Award) → refusal b (call (event.Award a) sheet) ≡ awardRefusal (length (b .positions)) (b .auction .position) (a .position)
-  unfolding refusal reasons awardRefusal awardReasons
+  unfolding refusal reasons within awardRefusal awardReasons
   award-refusal-is a = refl
 
   pub attempt-refusal-is : (a : Attempt) → let p = plain.positionOf b (a .position) in refusal b (call (event.Attempt a) sheet) ≡ first ((not (within 1 (length (b .positions)) (a .position)) ⇒ 11) ∷ attemptReasons p (stepToday b p) (b .auction .position) (plain.latestOf b (p .security)) (length (b .marks)) (some (λ n. eqb n (a .position)) (b .marks)))
-  unfolding refusal reasons attemptReasons
+  unfolding refusal reasons within attemptReasons
   attempt-refusal-is a = refl
 
   pub offer-refusal-is : (o : Offer) → refusal b (call (event.Offer o) sheet) ≡ first (offerReasons (length (b .positions)) (b .auction .position) o ++ auctionReasons (failing (b .day) (b .positions) (plain.positionOf b (o .position) .security) (o .offerer)) (b .auction .ceiling) (length (b .auction .offers)) (o .price))
-  unfolding refusal reasons offerReasons auctionReasons
+  unfolding refusal reasons within offerReasons auctionReasons
   offer-refusal-is o = refl

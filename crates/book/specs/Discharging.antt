@@ -6,6 +6,7 @@ use mathlib.Core.List.{List, [], _∷_, _++_}
 use mathlib.Core.Bool.{not}
 use lib.ListN.{length}
 use lib.Dec.{ltb, eqb}
+use Rattle.laws.specs.Asked.{within}
 use Rattle.laws.specs.Refusals.{Reason, _⇒_, first}
 use Rattle.rules.specs.Windows.{stepKind}
 use Rattle.rules.specs.declared.Step.{Step}
@@ -27,7 +28,6 @@ use Rattle.tables.specs.Tables as table
 use Rattle.book.specs.declared.Book.{Book}
 use Rattle.book.specs.declared.Discharged.{Discharged}
 use Rattle.book.specs.View.{view, Fits, Valid}
-use Rattle.book.specs.Entering.{within}
 use Rattle.book.specs.Auctions.{runsOn}
 
 -- the refusals before a discharge looks at its position or award: of the sheet's length, of how many there are, and the number named
@@ -73,15 +73,15 @@ cashRefusal p today latest = first (cashReasons p today latest)
 -- these are the plain book's
 module _ (b : plain.Book) (sheet : ℕ) where
   pub delivery-refusal-is : (d : Delivery) → refusal b (call (event.Delivery d) sheet) ≡ first (lookupReasons sheet (length (b .positions)) (d .position) ++ deliveryReasons (plain.positionOf b (d .position)) (b .day) (b .auction .position) (unconfirmed (d .position) (b .awards)) d)
-  unfolding refusal reasons free lookupReasons deliveryReasons
+  unfolding refusal reasons free within lookupReasons deliveryReasons
   delivery-refusal-is d = refl
 
   pub confirm-refusal-is : (c : Confirm) → refusal b (call (event.Confirm c) sheet) ≡ first (lookupReasons sheet (length (b .awards)) (c .award) ++ confirmReasons (plain.awardOf b (c .award)))
-  unfolding refusal reasons lookupReasons confirmReasons
+  unfolding refusal reasons within lookupReasons confirmReasons
   confirm-refusal-is c = refl
 
   pub cash-refusal-is : (c : Cash) → let p = plain.positionOf b (c .position) in refusal b (call (event.Cash c) sheet) ≡ first (lookupReasons sheet (length (b .positions)) (c .position) ++ cashReasons p (stepToday b p) (plain.latestOf b (p .security)))
-  unfolding refusal reasons lookupReasons cashReasons
+  unfolding refusal reasons within lookupReasons cashReasons
   cash-refusal-is c = refl
 
 -- a discharge that nothing turns down, whatever sheet of 1,024 places or more is lent

@@ -2,9 +2,10 @@
 use Prim.Native.Nat.{ℕ, _+_}
 use mathlib.Core.Path.{_≡_, refl}
 use mathlib.Core.List.{List, [], _∷_}
-use mathlib.Core.Bool.{Bool, not, _&&_}
+use mathlib.Core.Bool.{not, _&&_}
 use lib.ListN.{length}
 use lib.Dec.{leb, eqb}
+use Rattle.laws.specs.Asked.{within}
 use Rattle.laws.specs.Refusals.{Reason, _⇒_, first}
 use Rattle.events.specs.declared.Trade.{Trade}
 use Rattle.events.specs.declared.Price.{Price}
@@ -12,10 +13,6 @@ use Rattle.events.specs.declared.Event.the-variants as event
 use Rattle.plain.specs.Book as plain
 use Rattle.plain.specs.Calls.{call}
 use Rattle.plain.specs.Refusals.{isMember, isQuantity, isPrice, reasons, refusal}
-
--- low to high
-abbrev pub within : ℕ → ℕ → ℕ → Bool
-within low high n = leb low n && leb n high
 
 -- the refusals of a trade: of the number of securities registered, the number of trades held, and the trade
 unfoldable pub tradeReasons : ℕ → ℕ → Trade → List Reason
@@ -40,9 +37,9 @@ priceRefusal securities p = first (priceReasons securities p)
 
 -- these are the plain book's
 pub trade-refusal-is : (b : plain.Book) (t : Trade) (sheet : ℕ) → refusal b (call (event.Trade t) sheet) ≡ tradeRefusal (b .register .count) (b .past + length (b .trades)) t
-unfolding refusal reasons tradeRefusal tradeReasons
+unfolding refusal reasons within tradeRefusal tradeReasons
 trade-refusal-is b t sheet = refl
 
 pub price-refusal-is : (b : plain.Book) (p : Price) (sheet : ℕ) → refusal b (call (event.Price p) sheet) ≡ priceRefusal (b .register .count) p
-unfolding refusal reasons priceRefusal priceReasons
+unfolding refusal reasons within priceRefusal priceReasons
 price-refusal-is b p sheet = refl

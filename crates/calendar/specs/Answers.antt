@@ -5,8 +5,9 @@ use mathlib.Core.Bool.{not}
 use lib.Dec.{ltb}
 use lib.ListN.{length}
 use Rattle.laws.specs.Lists.{every}
+use Rattle.laws.specs.Asked.{within}
 use Rattle.laws.specs.Refusals.{Reason, _⇒_, first}
-use Rattle.calendar.specs.Dates.{valid, between, dayNumber, dateOf}
+use Rattle.calendar.specs.Dates.{valid, dayNumber, dateOf}
 use Rattle.calendar.specs.BusinessDays.{holidays, cutShort, ascending, business, businessDays, businessDay, businessNumber}
 use Rattle.calendar.specs.declared.DateAnswer.{DateAnswer}
 use Rattle.calendar.specs.declared.DateAnswer.the-variants as date
@@ -47,7 +48,7 @@ holidayReasons bytes =
 -- "30. The day falls after 2099."
 abbrev pub numberReasons : ℕ → List ℕ → ℕ → List Reason
 numberReasons opening hs number =
-    (not (between 1 9999 number) ⇒ 29)
+    (not (within 1 9999 number) ⇒ 29)
     ∷ (ltb (length (businessDays hs (dayNumber opening))) number ⇒ 30)
     ∷ []
 

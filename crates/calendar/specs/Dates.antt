@@ -2,9 +2,10 @@
 use Prim.Native.Nat.{ℕ, zero, suc, _+_, _-_, _*_, _/_, _%_}
 use mathlib.Core.List.{List, [], _∷_}
 use mathlib.Core.Bool.{Bool, cond, not, _&&_, _||_}
-use lib.Dec.{leb, ltb, eqb}
+use lib.Dec.{ltb, eqb}
 use lib.ListN.{getD}
 use Rattle.laws.specs.Lists.{only, range, sum}
+use Rattle.laws.specs.Asked.{within}
 use Rattle.calendar.specs.declared.Place.{Place}
 
 -- "months have 31, 28 or 29, 31, 30, 31, 30, 31, 31, 30, 31, 30, 31 days"
@@ -33,14 +34,10 @@ monthOf date = date / 100 % 100
 abbrev pub dayOf : ℕ → ℕ
 dayOf date = date % 100
 
--- from low to high, both included
-abbrev pub between : ℕ → ℕ → ℕ → Bool
-between low high n = leb low n && leb n high
-
 -- a date of 2000 to 2099
 unfoldable pub valid : ℕ → Bool
 valid date =
-    between 2000 2099 (yearOf date) && (between 1 12 (monthOf date) && between 1 (monthLength (yearOf date) (monthOf date)) (dayOf date))
+    within 2000 2099 (yearOf date) && (within 1 12 (monthOf date) && within 1 (monthLength (yearOf date) (monthOf date)) (dayOf date))
 
 -- the days of the years from 2000 on before a year, and of the months before a month of a year
 unfoldable pub beforeYear : ℕ → ℕ

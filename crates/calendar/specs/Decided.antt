@@ -3,20 +3,19 @@ use Prim.Native.Nat.{ℕ, zero, suc, _-_, _≤_, _<_}
 use native.Mathlib.Omega.{arith}
 use native.Mathlib.Nat.{lt-of-not-le}
 use mathlib.Core.Path.{_≡_, refl, ap, _∙_}
-use mathlib.Core.List.{List, _++_}
+use mathlib.Core.List.{List, [], _∷_}
 use mathlib.Core.Logic.{_≢_}
 use mathlib.Core.Bool.{true, false, not}
-use borrow.Author.Tests.{lt-ltb, le-ltb, le-leb, lt-leb, ltb-false, leb-true, not-false}
-use lib.Dec.{ltb, leb}
+use borrow.Author.Tests.{lt-ltb, le-ltb, le-leb, lt-leb, ltb-false, not-false}
 use lib.ListN.{length, List·getD-eq-default}
-use Rattle.laws.specs.Asked.{and-left, and-right}
-use Rattle.laws.specs.Refusals.{Reason, choose, first}
+use Rattle.laws.specs.Asked.{within, within-low, within-high}
+use Rattle.laws.specs.Refusals.{Reason, first, here, past, first-neither, none-applies}
 use Rattle.laws.specs.Ranges.{past-default}
-use Rattle.calendar.specs.Dates.{valid, between, dayNumber, dateOf, allDays}
+use Rattle.calendar.specs.Dates.{valid, dayNumber, dateOf, allDays}
 use Rattle.calendar.specs.BusinessDays.{holidays, business, businessDays, businessDay, businessNumber}
-use Rattle.calendar.specs.Answers.{holidayReasons, numberReasons, dateReasons, dayToDateRefusal, dateToDayRefusal, dateAnswer, dayAnswer, dayValue, dayToDate, dateToDay}
+use Rattle.calendar.specs.Answers.{invalid, holidayReasons, numberReasons, dateReasons, dayToDateRefusal, dateToDayRefusal, dateAnswer, dayAnswer, dayValue, dayToDate, dateToDay}
 use Rattle.calendar.specs.Lengths.{day-below}
-use Rattle.calendar.specs.Reasons.{none-applies, wrong-date, right-date, holidays-decide, rest-decides, neither-decides}
+use Rattle.calendar.specs.Reasons.{holidays-decide, rest-decides}
 use Rattle.calendar.specs.declared.DateAnswer.the-variants as date
 use Rattle.calendar.specs.declared.DayAnswer.the-variants as day
 
@@ -67,22 +66,24 @@ module _ (opening : ℕ) (bytes : List ℕ) (number : ℕ) where
 
   pub opening-wrong : valid opening ≡ false → date.Refused 27 ≡ dayToDate opening bytes number
   unfolding dayToDateRefusal
-  opening-wrong e = refused 27 (wrong-date opening _ e) (λ z. omega arith)
+  opening-wrong e = refused 27 (here 27 _ (ap not e)) (λ z. omega arith)
 
   module _ (v : valid opening ≡ true) where
     pub holidays-wrong : (r : ℕ) → r ≡ first (holidayReasons bytes) → r ≢ 0 → date.Refused r ≡ dayToDate opening bytes number
     unfolding dayToDateRefusal
-    holidays-wrong r e n = refused r (holidays-decide bytes r ofNumber e n ∙ right-date opening _ v) n
+    holidays-wrong r e n = refused r (past 27 (ap not v) (holidays-decide bytes r ofNumber e n)) n
 
     module _ (h : first (holidayReasons bytes) ≡ 0) where
       by-number : first ofNumber ≡ dayToDateRefusal opening bytes number
       unfolding dayToDateRefusal
-      by-number = rest-decides bytes ofNumber h ∙ right-date opening _ v
+      by-number = past 27 (ap not v) (rest-decides bytes ofNumber h)
 
       pub number-low : number < 1 → date.Refused 29 ≡ dayToDate opening bytes number
+      unfolding within
       number-low l = let e : 29 ≡ first ofNumber = rw (lt-leb 1 number l) in refused 29 (e ∙ by-number) (λ z. omega arith)
 
       pub number-high : 9999 < number → date.Refused 29 ≡ dayToDate opening bytes number
+      unfolding within
       number-high l =
           let low : 1 ≤ number = omega arith in
           let e : 29 ≡ first ofNumber = rw (le-leb 1 number low, lt-leb number 9999 l) in
@@ -90,13 +91,14 @@ module _ (opening : ℕ) (bytes : List ℕ) (number : ℕ) where
 
       module _ (low : 1 ≤ number) (high : number ≤ 9999) where
         pub day-after : businessDay (holidays bytes) (dayNumber opening) number ≡ allDays → date.Refused 30 ≡ dayToDate opening bytes number
+        unfolding within
         day-after n =
             let l = none-there (holidays bytes) (dayNumber opening) number (omega (arith, day-below opening v)) low n in
             let e : 30 ≡ first ofNumber = rw (le-leb 1 number low, le-leb number 9999 high, lt-ltb daysThere number l) in
             refused 30 (e ∙ by-number) (λ z. omega arith)
 
         pub date-is : number ≤ daysThere → date.Date dateSought ≡ dayToDate opening bytes number
-        unfolding dayToDate
+        unfolding dayToDate within
         date-is l =
             let e : 0 ≡ first ofNumber = rw (le-leb 1 number low, le-leb number 9999 high, le-ltb daysThere number l) in
             ap (λ (r : ℕ). dateAnswer r dateSought) (e ∙ by-number)
@@ -114,17 +116,17 @@ module _ (opening : ℕ) (bytes : List ℕ) (number : ℕ) where
   unfolding dayToDate dayToDateRefusal
   dated d e =
       let g = date-given (dayToDateRefusal opening bytes number) dateSought d e in
-      let a = none-applies (not (valid opening)) 26 (first (holidayReasons bytes ++ ofNumber)) (g .0) in
-      let b = neither-decides bytes ofNumber (a .1) in
-      let c = none-applies (not (between 1 9999 number)) 28 _ (b .1) in
-      let n = none-applies (ltb daysThere number) 29 _ (c .1) in
-      let w = not-false (between 1 9999 number) (c .0) in
+      let before = first-neither (invalid opening ∷ holidayReasons bytes) ofNumber refl (g .0) in
+      let start = first-neither (invalid opening ∷ []) (holidayReasons bytes) refl (before .0) in
+      let of-start = none-applies (invalid opening ∷ []) refl (start .0) in
+      let of-number = none-applies ofNumber refl (before .1) in
+      let w : within 1 9999 number ≡ true = not-false _ (of-number .0) in
       record {
-        opened = not-false (valid opening) (a .0);
-        listed = b .0;
-        from = leb-true 1 number (and-left (leb 1 number) (leb number 9999) w);
-        to = leb-true number 9999 (and-right (leb 1 number) (leb number 9999) w);
-        there = ltb-false daysThere number (n .0);
+        opened = not-false (valid opening) (of-start .0);
+        listed = start .1;
+        from = within-low 1 9999 number w;
+        to = within-high 1 9999 number w;
+        there = ltb-false daysThere number (of-number .1 .0);
         value = g .1;
       }
 
@@ -142,23 +144,23 @@ module _ (opening : ℕ) (bytes : List ℕ) (asked : ℕ) where
 
   pub start-wrong : valid opening ≡ false → day.Refused 27 ≡ dateToDay opening bytes asked
   unfolding dateToDayRefusal
-  start-wrong e = turned-down 27 (wrong-date opening _ e) (λ z. omega arith)
+  start-wrong e = turned-down 27 (here 27 _ (ap not e)) (λ z. omega arith)
 
   module _ (v : valid opening ≡ true) where
     pub asked-wrong : valid asked ≡ false → day.Refused 27 ≡ dateToDay opening bytes asked
     unfolding dateToDayRefusal
-    asked-wrong e = turned-down 27 (wrong-date asked _ e ∙ right-date opening _ v) (λ z. omega arith)
+    asked-wrong e = turned-down 27 (past 27 (ap not v) (here 27 _ (ap not e))) (λ z. omega arith)
 
     module _ (w : valid asked ≡ true) where
       pub list-wrong : (r : ℕ) → r ≡ first (holidayReasons bytes) → r ≢ 0 → day.Refused r ≡ dateToDay opening bytes asked
       unfolding dateToDayRefusal
       list-wrong r e n =
-          turned-down r (holidays-decide bytes r ofDate e n ∙ (right-date asked _ w ∙ right-date opening _ v)) n
+          turned-down r (past 27 (ap not v) (past 27 (ap not w) (holidays-decide bytes r ofDate e n))) n
 
       module _ (h : first (holidayReasons bytes) ≡ 0) where
         by-date : first ofDate ≡ dateToDayRefusal opening bytes asked
         unfolding dateToDayRefusal
-        by-date = rest-decides bytes ofDate h ∙ (right-date asked _ w ∙ right-date opening _ v)
+        by-date = past 27 (ap not v) (past 27 (ap not w) (rest-decides bytes ofDate h))
 
         pub too-early : dayNumber asked < dayNumber opening → day.Refused 29 ≡ dateToDay opening bytes asked
         too-early l =
@@ -197,18 +199,16 @@ module _ (opening : ℕ) (bytes : List ℕ) (asked : ℕ) where
   unfolding dateToDay dateToDayRefusal
   numbered n e =
       let g = day-given (dateToDayRefusal opening bytes asked) numberSought n e in
-      let a = none-applies (not (valid opening)) 26 (choose (not (valid asked)) 27 (first (holidayReasons bytes ++ ofDate))) (g .0) in
-      let w = none-applies (not (valid asked)) 26 (first (holidayReasons bytes ++ ofDate)) (a .1) in
-      let b = neither-decides bytes ofDate (w .1) in
-      let c = none-applies (ltb (dayNumber asked) (dayNumber opening)) 28 _ (b .1) in
-      let d = none-applies (not (business (holidays bytes) (dayNumber asked))) 28 _ (c .1) in
-      let f = none-applies (ltb 9999 numberSought) 28 _ (d .1) in
+      let before = first-neither (invalid opening ∷ invalid asked ∷ holidayReasons bytes) ofDate refl (g .0) in
+      let start = first-neither (invalid opening ∷ invalid asked ∷ []) (holidayReasons bytes) refl (before .0) in
+      let of-dates = none-applies (invalid opening ∷ invalid asked ∷ []) refl (start .0) in
+      let of-date = none-applies ofDate refl (before .1) in
       record {
-        opened = not-false (valid opening) (a .0);
-        valid-date = not-false (valid asked) (w .0);
-        listed = b .0;
-        from = ltb-false (dayNumber asked) (dayNumber opening) (c .0);
-        open-day = not-false (business (holidays bytes) (dayNumber asked)) (d .0);
-        to = ltb-false 9999 numberSought (f .0);
+        opened = not-false (valid opening) (of-dates .0);
+        valid-date = not-false (valid asked) (of-dates .1 .0);
+        listed = start .1;
+        from = ltb-false (dayNumber asked) (dayNumber opening) (of-date .0);
+        open-day = not-false (business (holidays bytes) (dayNumber asked)) (of-date .1 .0);
+        to = ltb-false 9999 numberSought (of-date .1 .1 .0);
         value = g .1;
       }

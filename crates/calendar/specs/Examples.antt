@@ -5,6 +5,7 @@ use mathlib.Core.List.{List, [], _∷_}
 use mathlib.Core.Bool.{true}
 use lib.Dec.{eqb}
 use Rattle.laws.specs.Lists.{every}
+use Rattle.laws.specs.Asked.{within}
 use Rattle.laws.specs.Words.{bytes32}
 use Rattle.calendar.specs.Dates.{leap, monthLength, yearLength, valid, beforeYear, beforeMonth, dayNumber, placed, dateOf}
 use Rattle.calendar.specs.BusinessDays.{holidays, above, ascending, weekday, business, businessNumber}
@@ -38,10 +39,10 @@ rows =
     ∷ []
 
 pub all-rows : every (λ r. eqb (r .worked) (r .expected)) rows ≡ true
-unfolding rows leap monthLength yearLength valid beforeYear beforeMonth dayNumber placed dateOf holidays above ascending business businessNumber dateToDayRefusal dateToDay
+unfolding rows leap monthLength yearLength within valid beforeYear beforeMonth dayNumber placed dateOf holidays above ascending business businessNumber dateToDayRefusal dateToDay
 all-rows = refl
 
 -- "Opening 2000-01-01, no holidays: day 5 is 7 January, day 6 is 10 January."
 pub first-days : (dayToDate 20000101 [] 5 ≡ date.Date 20000107) × (dayToDate 20000101 [] 6 ≡ date.Date 20000110)
-unfolding leap monthLength yearLength valid beforeYear beforeMonth dayNumber holidays above ascending business businessNumber dateToDayRefusal dateToDay
+unfolding leap monthLength yearLength within valid beforeYear beforeMonth dayNumber holidays above ascending business businessNumber dateToDayRefusal dateToDay
 first-days = (date-again 20000101 [] 20000107 5 refl, date-again 20000101 [] 20000110 6 refl)

@@ -7,9 +7,9 @@ use borrow.Author.Tests.{leb-true, le-leb, eq-eqb, ne-eqb}
 use lib.Dec.{leb, eqb}
 use lib.ListN.{getD}
 use Rattle.laws.specs.Lists.{only, range, sum}
-use Rattle.laws.specs.Asked.{Said, passed, failed, ask, and-left, and-right, both}
+use Rattle.laws.specs.Asked.{Said, passed, failed, ask, and-left, and-right, both, within, within-low, within-high}
 use Rattle.laws.specs.Ranges.{sum-more, sum-longer, every-at}
-use Rattle.calendar.specs.Dates.{months, leap, monthLength, yearLength, yearOf, monthOf, dayOf, between, valid, beforeYear, beforeMonth, dayNumber, allDays}
+use Rattle.calendar.specs.Dates.{months, leap, monthLength, yearLength, yearOf, monthOf, dayOf, valid, beforeYear, beforeMonth, dayNumber, allDays}
 
 -- a month's length, by the table
 module _ (year month : ℕ) where
@@ -95,31 +95,27 @@ pub record Parts (year month day : ℕ) : Type 0 where
   pub day-from : 1 ≤ day
   pub day-to : day ≤ monthLength year month
 
-within : (low high n : ℕ) → between low high n ≡ true → (low ≤ n) × (n ≤ high)
-within low high n e =
-    (leb-true low n (and-left (leb low n) (leb n high) e), leb-true n high (and-right (leb low n) (leb n high) e))
-
 pub parts : (date : ℕ) → valid date ≡ true → Parts (yearOf date) (monthOf date) (dayOf date)
 unfolding valid
 parts date e =
-    let ty = between 2000 2099 (yearOf date) in
-    let tm = between 1 12 (monthOf date) in
-    let td = between 1 (monthLength (yearOf date) (monthOf date)) (dayOf date) in
-    let y = within 2000 2099 (yearOf date) (and-left ty (tm && td) e) in
+    let ty = within 2000 2099 (yearOf date) in
+    let tm = within 1 12 (monthOf date) in
+    let td = within 1 (monthLength (yearOf date) (monthOf date)) (dayOf date) in
+    let y = and-left ty (tm && td) e in
     let f = and-right ty (tm && td) e in
-    let m = within 1 12 (monthOf date) (and-left tm td f) in
-    let d = within 1 (monthLength (yearOf date) (monthOf date)) (dayOf date) (and-right tm td f) in
-    record { year-from = y .0; year-to = y .1; month-from = m .0; month-to = m .1; day-from = d .0; day-to = d .1 }
+    let m = and-left tm td f in
+    let d = and-right tm td f in
+    record { year-from = within-low _ _ _ y; year-to = within-high _ _ _ y; month-from = within-low _ _ _ m; month-to = within-high _ _ _ m; day-from = within-low _ _ _ d; day-to = within-high _ _ _ d }
 
 pub whole : (date : ℕ) → Parts (yearOf date) (monthOf date) (dayOf date) → valid date ≡ true
-unfolding valid
+unfolding valid within
 whole date p =
     both _ _ (both _ _ (le-leb _ _ (p .year-from)) (le-leb _ _ (p .year-to)))
     (both _ _ (both _ _ (le-leb _ _ (p .month-from)) (le-leb _ _ (p .month-to))) (both _ _ (le-leb _ _ (p .day-from)) (le-leb _ _ (p .day-to))))
 
 -- where year and month are right, the day decides
 pub by-day : (date long : ℕ) → 2000 ≤ yearOf date → yearOf date ≤ 2099 → 1 ≤ monthOf date → monthOf date ≤ 12 → 1 ≤ dayOf date → long ≡ monthLength (yearOf date) (monthOf date) → leb (dayOf date) long ≡ valid date
-unfolding valid
+unfolding valid within
 by-day date long a b c d e l =
     rw (le-leb 2000 (yearOf date) a, le-leb (yearOf date) 2099 b, le-leb 1 (monthOf date) c, le-leb (monthOf date) 12 d, le-leb 1 (dayOf date) e)
     (ap (leb (dayOf date)) l)

@@ -1,16 +1,15 @@
 -- The refusals 6 and 7 that are left to check once i events have passed.
 use Prim.Native.Nat.{ℕ, suc, _+_, _*_, _≤_, _<_}
 use native.Mathlib.Omega.{arith}
-use mathlib.Core.Path.{_≡_, ap, ap₂, _∙_}
+use mathlib.Core.Path.{_≡_, refl, ap, ap₂, _∙_}
 use mathlib.Core.List.{List, _++_}
 use lib.ListN.{length, getD, take, drop, length-drop, drop-of-length-le}
 use lib.Seq.{drop-drop, drop-cons, length-take-le}
 use borrow.Author.Tests.{lt-ltb, le-ltb, eq-eqb, ne-eqb}
-use Rattle.laws.specs.Refusals.{Reason, first}
+use Rattle.laws.specs.Refusals.{Reason, first, first-past, first-there}
 use Rattle.laws.specs.Parts.{getD-part}
 use Rattle.laws.specs.Words.{word16At}
 use Rattle.events.specs.File.{refusal, count, size, kindsIn, bodiesIn, reasons, checks}
-use Rattle.events.specs.Inverse.{next-reason, this-reason}
 use Rattle.events.proofs.Places.{body-place}
 
 abbrev pub left : List ℕ → ℕ → ℕ → List Reason
@@ -36,11 +35,11 @@ module _ (file : List ℕ) (n : ℕ) (long : length file ≡ size n) where
 
   -- the next event decides, or those after it do
   pub left-here : (i : ℕ) → i < n → (first (placed file n i) ≡ 0 → ⊥) → first (left file n i) ≡ first (placed file n i)
-  left-here i h e = ap first (left-more i h) ∙ this-reason (placed file n i) (left file n (suc i)) e
+  left-here i h e = ap first (left-more i h) ∙ first-there (placed file n i) (left file n (suc i)) e
 
   pub left-next : (i : ℕ) → i < n → first (placed file n i) ≡ 0 → first (left file n i) ≡ first (left file n (suc i))
   left-next i h e =
-      ap first (left-more i h) ∙ next-reason (placed file n i) (left file n (suc i)) (omega arith) e
+      ap first (left-more i h) ∙ first-past (placed file n i) (left file n (suc i)) refl e
 
   pub left-none : (i : ℕ) → n ≤ i → first (left file n i) ≡ 0
   left-none i h =

@@ -1,16 +1,15 @@
 -- Reading and writing event files are inverse: a file that is written passes and is read as the events that were
 -- written, and a file that passes is, byte for byte, the one that its events write.
-use Prim.Native.Nat.{ℕ, zero, suc, _*_, _≤_, _<_, _%_, _/_}
+use Prim.Native.Nat.{ℕ, zero, suc, _*_, _≤_, _%_, _/_}
 use native.Mathlib.Omega.{arith}
 use mathlib.Core.Path.{_≡_, refl, ap, ap₂, sym, _∙_}
 use mathlib.Core.List.{List, [], _∷_, _++_, map}
-use mathlib.Core.Bool.{Bool, true, false, not}
 use lib.Dec.{eqb, eqb·suc-zero}
 use lib.ListN.{length, take, length-append, length-map}
 use lib.Seq.{take-at, drop-at, drop-drop}
 use borrow.Author.Tests.{le-ltb, eq-eqb}
 use Rattle.laws.specs.Lists.{All, each, only}
-use Rattle.laws.specs.Refusals.{Reason, _⇒_, first, choose}
+use Rattle.laws.specs.Refusals.{first, first-past}
 use Rattle.laws.specs.Words.{word16, word32, word16At}
 use Rattle.laws.specs.WordLaws.{word16-bytes, word32-bytes}
 use Rattle.events.specs.declared.Event.{Event}
@@ -73,39 +72,13 @@ clean (Event.Confirm c) = refl
 clean (Event.Cash c) = refl
 clean Event.Close = refl
 
--- ---- what the first reason that applies says of each
-
--- where no reason applies, the first one does not, and none of the others
-pub passes : (a : Bool) (m : ℕ) (rest : List Reason) → first ((a ⇒ suc m) ∷ rest) ≡ 0 → (a ≡ false) × (first rest ≡ 0)
-passes true m rest e = absurd (omega arith)
-passes false m rest e = (refl, e)
-
--- where no reason of a list applies, those after it decide; else the list does
-next-choice : (a : Bool) (n x y z : ℕ) → 0 < n → (x ≡ 0 → y ≡ z) → choose a n x ≡ 0 → choose a n y ≡ z
-next-choice true n x y z h f e = absurd (omega arith)
-next-choice false n x y z h f e = f e
-
-pub next-reason : (rs more : List Reason) → All (λ r. 0 < r .number) rs → first rs ≡ 0 → first (rs ++ more) ≡ first more
-next-reason [] more h e = refl
-next-reason (r ∷ rs) more h e =
-    next-choice (r .applies) (r .number) (first rs) (first (rs ++ more)) (first more) (h .0) (next-reason rs more (h .1)) e
-
-this-choice : (a : Bool) (n x y : ℕ) → ((x ≡ 0 → ⊥) → y ≡ x) → (choose a n x ≡ 0 → ⊥) → choose a n y ≡ choose a n x
-this-choice true n x y f h = refl
-this-choice false n x y f h = f h
-
-pub this-reason : (rs more : List Reason) → (first rs ≡ 0 → ⊥) → first (rs ++ more) ≡ first rs
-this-reason [] more h = absurd (h refl)
-this-reason (r ∷ rs) more h =
-    this-choice (r .applies) (r .number) (first rs) (first (rs ++ more)) (this-reason rs more) h
-
 -- ---- a list of events, written and read
 
 clean-all : (es : List Event) → first (checks (map kindOf es) (each bodyOf es)) ≡ 0
 clean-all [] = refl
 clean-all (e ∷ es) =
     rw (take-at (bodyOf e) (each bodyOf es) 16 (length-body (fieldsOf e)), drop-at (bodyOf e) (each bodyOf es) 16 (length-body (fieldsOf e)))
-    (next-reason (reasons (kindOf e) (bodyOf e)) (checks (map kindOf es) (each bodyOf es)) (omega arith) (clean e) ∙ clean-all es)
+    (first-past (reasons (kindOf e) (bodyOf e)) (checks (map kindOf es) (each bodyOf es)) refl (clean e) ∙ clean-all es)
 
 read-all : (es : List Event) → All Fits es → paired (map kindOf es) (each bodyOf es) ≡ es
 read-all [] h = refl

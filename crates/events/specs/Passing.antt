@@ -11,7 +11,7 @@ use lib.Seq.{drop-drop, length-take-le, take-all}
 use borrow.Author.Tests.{eqb-true, ltb-false, leb-true, not-false}
 use Rattle.laws.specs.Lists.{All, each, some, range, only}
 use Rattle.laws.specs.Asked.{Said, passed, failed, ask, and-right, or-left, or-right}
-use Rattle.laws.specs.Refusals.{Reason, _⇒_, first}
+use Rattle.laws.specs.Refusals.{Reason, _⇒_, first, first-neither, none-applies}
 use Rattle.laws.specs.Words.{word16, word32, word16At, word32At, bytes16, bytes32}
 use Rattle.laws.specs.WordLaws.{nonzero, bytes16-word, bytes32-word}
 use Rattle.laws.specs.Parts.{all-take, all-drop, read-part}
@@ -21,7 +21,6 @@ use Rattle.events.specs.declared.Fields.{Fields}
 use Rattle.events.specs.declared.Uses.{Uses}
 use Rattle.events.specs.Body.{kindOf, isKind, fields, fieldsOf, body, bodyOf, fieldsAt, eventRows, eventFrom, eventOf, usesOf, spareIn, spareSet, InWidth, Fits}
 use Rattle.events.specs.File.{count, size, kindsIn, bodiesIn, paired, eventsOf, reasons, checks, refusal, fileOf}
-use Rattle.events.specs.Inverse.{passes}
 
 at-most-nine : (kind : ℕ) → isKind kind ≡ true → kind ≤ 9
 at-most-nine kind k = leb-true kind 9 (and-right (leb 1 kind) (leb kind 9) k)
@@ -155,16 +154,14 @@ pub passing : (file : List ℕ) → refusal file ≡ 0 → Passing file
 unfolding refusal
 passing file e =
     let n : ℕ = count file in
-    let events : List Reason = checks (kindsIn file n) (bodiesIn file n) in
-    let length-reasons : List Reason = (not (eqb (length file) (size n)) ⇒ 5) ∷ events in
-    let c = passes (ltb 2048 n) 4 ((not (eqb (word16At file 2) 16) ⇒ 5) ∷ length-reasons) e in
-    let w = passes (not (eqb (word16At file 2) 16)) 4 length-reasons (c .1) in
-    let l = passes (not (eqb (length file) (size n))) 4 events (w .1) in
+    let header : List Reason = (ltb 2048 n ⇒ 5) ∷ (not (eqb (word16At file 2) 16) ⇒ 5) ∷ (not (eqb (length file) (size n)) ⇒ 5) ∷ [] in
+    let both = first-neither header (checks (kindsIn file n) (bodiesIn file n)) refl e in
+    let none = none-applies header refl (both .0) in
     record {
-      few = ltb-false 2048 n (c .0);
-      width = eqb-true (word16At file 2) 16 (not-false (eqb (word16At file 2) 16) (w .0));
-      long = eqb-true (length file) (size n) (not-false (eqb (length file) (size n)) (l .0));
-      clear = l .1;
+      few = ltb-false 2048 n (none .0);
+      width = eqb-true (word16At file 2) 16 (not-false (eqb (word16At file 2) 16) (none .1 .0));
+      long = eqb-true (length file) (size n) (not-false (eqb (length file) (size n)) (none .1 .1 .0));
+      clear = both .1;
     }
 
 pub length-kinds : (file : List ℕ) → length file ≡ size (count file) → length (kindsIn file (count file)) ≡ count file

@@ -1,6 +1,9 @@
--- Tests that were asked: a Bool with what it said, and what a joined test says of its parts.
+-- Tests that were asked: a Bool with what it said, what a joined test says of its parts, and the test that a number is low to high.
+use Prim.Native.Nat.{ℕ, _≤_}
 use mathlib.Core.Path.{_≡_, refl, sym, _∙_}
 use mathlib.Core.Bool.{Bool, true, false, not, _&&_, _||_, true≢false}
+use lib.Dec.{leb}
+use borrow.Author.Tests.{leb-true}
 
 -- what a test said: it passed or it failed
 pub data Said (b : Bool) : Type 0 where
@@ -34,3 +37,24 @@ or-right false b e = e
 pub neither : (a b : Bool) → a ≡ false → b ≡ false → a || b ≡ false
 neither true b e f = e
 neither false b e f = f
+
+-- a test that the code made by a call which answers r
+pub fails : {r t : Bool} → not r ≡ true → r ≡ t → t ≡ false
+fails {r = true} e same = sym same ∙ sym e
+fails {r = false} e same = sym same
+
+pub passes : {r t : Bool} → not r ≡ false → r ≡ t → t ≡ true
+passes {r = true} e same = sym same
+passes {r = false} e same = sym same ∙ sym e
+
+-- n is low to high, both included
+unfoldable pub within : ℕ → ℕ → ℕ → Bool
+within low high n = leb low n && leb n high
+
+pub within-low : (low high n : ℕ) → within low high n ≡ true → low ≤ n
+unfolding within
+within-low low high n e = leb-true low n (and-left (leb low n) (leb n high) e)
+
+pub within-high : (low high n : ℕ) → within low high n ≡ true → n ≤ high
+unfolding within
+within-high low high n e = leb-true n high (and-right (leb low n) (leb n high) e)

@@ -4,7 +4,7 @@ use native.Mathlib.Nat.{add-zero}
 use native.Mathlib.Omega.{arith}
 use mathlib.Core.Path.{_≡_, refl, ap, sym, _∙_}
 use mathlib.Core.List.{List, [], _∷_, _++_}
-use mathlib.Core.Bool.{Bool, true, false, false≢true}
+use mathlib.Core.Bool.{Bool, true, false, false≢true, true≢false}
 use lib.Dec.{ltb}
 use Rattle.laws.specs.Lists.{range, each, every, All}
 use Rattle.laws.specs.Asked.{and-left, and-right}
@@ -27,6 +27,15 @@ choose false n rest = rest
 abbrev pub first : List Reason → ℕ
 first [] = 0
 first (r ∷ rs) = choose (r .applies) (r .number) (first rs)
+
+-- a list of reasons, read from its first on: a reason that applies decides, and past one that does not the rest does
+pub here : {t : Bool} (n rest : ℕ) → t ≡ true → n ≡ choose t n rest
+here {t = true} n rest e = refl
+here {t = false} n rest e = absurd (true≢false (sym e))
+
+pub past : {t : Bool} {m rest : ℕ} (n : ℕ) → t ≡ false → m ≡ rest → m ≡ choose t n rest
+past {t = true} n e same = absurd (true≢false e)
+past {t = false} n e same = same
 
 -- the first where the refusal number is 0, else the second
 module _ {A : Type 0} where
@@ -66,6 +75,14 @@ first-there [] ys h = absurd (h refl)
 first-there (x ∷ xs) ys h =
     choose-there (x .applies) (x .number) (first xs) (first (xs ++ ys)) h (λ k. first-there xs ys k)
 
+-- where both lists together refuse nothing, neither of them refuses
+pub first-neither : (xs ys : List Reason) → numbered xs ≡ true → first (xs ++ ys) ≡ 0 → (first xs ≡ 0) × (first ys ≡ 0)
+first-neither xs ys h e = go (first xs) refl
+  where
+    go : (n : ℕ) → first xs ≡ n → (first xs ≡ 0) × (first ys ≡ 0)
+    go zero z = (z, sym (first-past xs ys h z) ∙ e)
+    go (suc n) k = absurd (omega (arith, sym (first-there xs ys (λ z. omega (arith, sym k ∙ z))) ∙ e))
+
 -- no reason of a list applies where the list refuses nothing
 pub none-applies : (rs : List Reason) → numbered rs ≡ true → first rs ≡ 0 → All (λ r. r .applies ≡ false) rs
 none-applies [] h e = tt
@@ -75,14 +92,9 @@ none-applies (r ∷ rs) h e =
 
 -- the reasons of numbered entries, one entry after the other: where none refuses, no entry refuses
 module _ (f : ℕ → List Reason) (h : (i : ℕ) → numbered (f i) ≡ true) where
-  entry-past : (i : ℕ) (ys : List Reason) (n : ℕ) → first (f i) ≡ n → first (f i ++ ys) ≡ 0 → n ≡ 0
-  entry-past i ys zero e k = refl
-  entry-past i ys (suc n) e k = absurd (omega (arith, sym e ∙ sym (first-there (f i) ys (λ z. omega (arith, sym e ∙ z))) ∙ k))
-
   pub each-passes : (a n i : ℕ) → first (each f (range a n)) ≡ 0 → i < n → first (f (a + i)) ≡ 0
   each-passes a zero i e k = absurd (omega arith)
-  each-passes a (suc n) zero e k = rw add-zero (entry-past a (each f (range (suc a) n)) (first (f a)) refl e)
+  each-passes a (suc n) zero e k = rw add-zero (first-neither (f a) (each f (range (suc a) n)) (h a) e .0)
   each-passes a (suc n) (suc i) e k =
-      let z : first (f a) ≡ 0 = entry-past a (each f (range (suc a) n)) (first (f a)) refl e in
       ap (λ (j : ℕ). first (f j)) (omega arith)
-      ∙ each-passes (suc a) n i (sym (first-past (f a) (each f (range (suc a) n)) (h a) z) ∙ e) (omega arith)
+      ∙ each-passes (suc a) n i (first-neither (f a) (each f (range (suc a) n)) (h a) e .1) (omega arith)

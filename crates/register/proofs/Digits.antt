@@ -9,9 +9,8 @@ use lib.ListN.{length, getD, take}
 use lib.Seq.{take-suc}
 use Rattle.laws.specs.Lists.{each}
 use Rattle.laws.specs.Listed.{each-append}
-use Rattle.laws.specs.Asked.{Said, passed, failed, ask}
+use Rattle.laws.specs.Asked.{Said, passed, failed, ask, within-high}
 use Rattle.register.specs.Isin.{isCapital, isDigit, value, digits, digitSum, twice, digitSums, doubledBefore}
-use Rattle.register.specs.Accepted.{within-high}
 
 module _ (c : ℕ) where
   pub letter-value : isCapital c ≡ true → value c ≡ c - 55

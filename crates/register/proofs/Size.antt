@@ -7,7 +7,7 @@ use mathlib.Core.Bool.{false, and-false}
 use lib.ListN.{length, take, drop}
 use lib.Dec.{eqb}
 use borrow.Author.Tests.{le-leb, lt-leb, ne-eqb}
-use Rattle.register.specs.Isin.{within}
+use Rattle.laws.specs.Asked.{within}
 use Rattle.laws.specs.Places.{drop-replicate}
 use Rattle.register.specs.Register.{count, rightSize, zeros, padded, classBytes, isinBytes, registerOf}
 use Rattle.register.specs.declared.Register.{Register}

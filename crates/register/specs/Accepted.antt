@@ -7,22 +7,14 @@ use mathlib.Core.List.{List}
 use mathlib.Core.Bool.{Bool, true, false, false≢true}
 use lib.ListN.{length, getD, drop, length-append, length-replicate, length-drop, List·getD-append}
 use lib.Seq.{length-take-le, getD-take, getD-drop}
-use lib.Dec.{leb, eqb}
-use borrow.Author.Tests.{leb-true, eqb-true, not-false}
+use lib.Dec.{eqb}
+use borrow.Author.Tests.{eqb-true, not-false}
 use Rattle.laws.specs.Refusals.{first, numbered, none-applies, each-passes, accepted, accepted-not}
-use Rattle.laws.specs.Asked.{and-left, and-right}
+use Rattle.laws.specs.Asked.{and-left, and-right, within, within-low, within-high}
 use Rattle.laws.specs.Places.{same, same-refl, some-range}
-use Rattle.register.specs.Isin.{within, isin}
+use Rattle.register.specs.Isin.{isin}
 use Rattle.register.specs.Register.{count, classAt, isinAt, rightSize, isClass, standsEarlier, entryReasons, entriesRefusal, refusal, zeros, padded, classBytes, isinBytes, registerOf, emptyRegister, classOf, registerRead, Sized}
 use Rattle.register.specs.declared.Register.{Register}
-
-pub within-low : (low high n : ℕ) → within low high n ≡ true → low ≤ n
-unfolding within
-within-low low high n e = leb-true low n (and-left (leb low n) (leb n high) e)
-
-pub within-high : (low high n : ℕ) → within low high n ≡ true → n ≤ high
-unfolding within
-within-high low high n e = leb-true n high (and-right (leb low n) (leb n high) e)
 
 pub sized : (bytes : List ℕ) → rightSize bytes ≡ true → Sized bytes (count bytes)
 unfolding rightSize

@@ -5,13 +5,10 @@ use Prim.Native.Nat.{ℕ, _+_, _-_, _*_, _/_, _%_}
 use mathlib.Core.List.{List, [], _∷_, reverse}
 use mathlib.Core.Bool.{Bool, true, false, cond, not, _&&_, _||_}
 use lib.ListN.{length, take, drop}
-use lib.Dec.{leb, eqb}
+use lib.Dec.{eqb}
 use Rattle.laws.specs.Lists.{only, each, every}
+use Rattle.laws.specs.Asked.{within}
 use Rattle.laws.specs.Refusals.{choose}
-
--- n is low to high
-unfoldable pub within : ℕ → ℕ → ℕ → Bool
-within low high n = leb low n && leb n high
 
 -- "capital letters", A to Z; "digits", 0 to 9; "digits or capitals": characters are ASCII
 abbrev pub isCapital : ℕ → Bool

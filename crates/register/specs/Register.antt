@@ -7,10 +7,11 @@ use mathlib.Core.Bool.{Bool, not, _&&_}
 use lib.ListN.{length, getD, take, drop, replicate}
 use lib.Dec.{eqb}
 use Rattle.laws.specs.Lists.{range, each, some}
+use Rattle.laws.specs.Asked.{within}
 use Rattle.laws.specs.Refusals.{Reason, _⇒_, first, accepted}
 use Rattle.laws.specs.Words.{word16At}
 use Rattle.laws.specs.Places.{same}
-use Rattle.register.specs.Isin.{isin, within}
+use Rattle.register.specs.Isin.{isin}
 use Rattle.register.specs.declared.Register.{Register}
 use Rattle.register.specs.declared.RegisterRead.{RegisterRead}
 

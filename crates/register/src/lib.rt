@@ -4,6 +4,7 @@ ghost use mathlib.Core.List.{reverse, _++_};
 ghost use Prim.Native.Nat.{_≤_, _<_};
 ghost use lib.ListN.{length, drop};
 ghost use Rattle.laws.specs.Lists.{every};
+ghost use Rattle.laws.specs.Asked;
 ghost use Rattle.laws.specs.Refusals.{first};
 ghost use Rattle.laws.specs.Places;
 ghost use Rattle.register.specs.Isin;
@@ -33,7 +34,7 @@ const WRONG_ISIN: u8 = 3;
 const REPEATED_ISIN: u8 = 4;
 
 fn within(low: u8, high: u8, n: u8) -> bool
-    ensures { λ r. ⌜ r ≡ Isin.within low high n ⌝ }
+    ensures { λ r. ⌜ r ≡ Asked.within low high n ⌝ }
 {
     if low <= n { n <= high } else { false }
 }

@@ -3,16 +3,15 @@ use Prim.Native.Nat.{ℕ, zero, suc, _+_, _-_, _*_, _≤_, _<_}
 use native.Mathlib.Omega.{arith}
 use mathlib.Core.Path.{_≡_, refl, ap, ap₂, sym, _∙_}
 use mathlib.Core.List.{List, [], _∷_}
-use mathlib.Core.Bool.{Bool, true, false, not, _&&_}
-use lib.Dec.{eqb, ltb, leb}
+use mathlib.Core.Bool.{Bool, true, false, not}
+use lib.Dec.{eqb, ltb}
 use lib.ListN.{length, getD, take, drop, length-drop, length-take}
 use lib.Seq.{getD-take, take-take, take-all, length-take-le}
-use borrow.Author.Tests.{lt-ltb, ne-eqb, leb-true, ltb-true, ltb-false}
-use Rattle.laws.specs.Asked.{Said, passed, failed, ask, and-left, and-right}
+use borrow.Author.Tests.{lt-ltb, ne-eqb, ltb-true, ltb-false}
+use Rattle.laws.specs.Asked.{Said, passed, failed, ask, within, within-high}
 use Rattle.laws.specs.Refusals.{_⇒_, first, accepted-not}
 use Rattle.laws.specs.Words.{word16, word16At}
 use Rattle.laws.specs.WordLaws.{nonzero}
-use Rattle.register.specs.Isin.{within}
 use Rattle.register.specs.Register.{registerRead, rightSize}
 use Rattle.register.specs.Register as register
 use Rattle.events.specs.File.{refusal, count, size}
@@ -65,8 +64,7 @@ module _ (input : List ℕ) (most : ℕ) (room : 35239 ≤ most) where
 
   module _ (counted : within 1 32 (word16At input 0) ≡ true) (longer : most < length input) where
     small : registerLength input ≤ 418
-    unfolding within
-    small = omega (arith, leb-true (word16At input 0) 32 (and-right (leb 1 (word16At input 0)) (leb (word16At input 0) 32) counted))
+    small = omega (arith, within-high 1 32 (word16At input 0) counted)
 
     same-register : registerIn cut ≡ registerIn input
     same-register = ap (λ (k : ℕ). take k cut) same-length ∙ take-take (registerLength input) most input (omega (arith, small))

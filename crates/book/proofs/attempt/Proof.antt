@@ -2,13 +2,12 @@
 use native.Mathlib.Omega.{arith}
 use mathlib.Core.Path.{_≡_, refl, sym, _∙_}
 use mathlib.Core.Bool.{true}
+use Rattle.laws.specs.Asked.{fails, passes, within-low, within-high, within}
 use Rattle.events.specs.declared.Event.the-variants as event
 use Rattle.plain.specs.Book.{positionOf}
 use Rattle.plain.specs.Calls.{call, handsOut}
 use Rattle.plain.specs.Refusals.{refusal}
 use Rattle.book.specs.View.{view}
-use Rattle.book.specs.Entering.{within}
-use Rattle.book.proofs.Chosen.{fails, passes, within-low, within-high}
 use Rattle.book.proofs.Answers.{turned-down}
 use Rattle.book.proofs.Auctions.{answered, security-at, attempt-missing, attempt-number, ceiling-is, mark-room}
 use borrow.Author.Needs.{needs}

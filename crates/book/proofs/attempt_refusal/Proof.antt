@@ -3,9 +3,9 @@ use mathlib.Core.Path.{_≡_, refl, ap}
 use mathlib.Core.Bool.{true, false, not, _||_}
 use lib.Dec.{leb}
 use borrow.Author.Tests.{eq-eqb, ne-eqb, le-leb, lt-leb, lt-ltb, le-ltb}
-use Rattle.laws.specs.Asked.{neither}
+use Rattle.laws.specs.Asked.{neither, fails, passes}
+use Rattle.laws.specs.Refusals.{here, past}
 use Rattle.book.specs.Auctions.{attemptReasons, attemptRefusal}
-use Rattle.book.proofs.Chosen.{here, past, fails, passes}
 use borrow.Author.Needs.{needs}
 use Rattle.book.proofs.attempt_refusal.Statement.{statement}
 use Rattle.book.proofs.attempt_refusal.Tie as tie

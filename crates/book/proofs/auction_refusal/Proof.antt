@@ -1,8 +1,8 @@
 -- `book::auction_refusal` meets its contract.
 use mathlib.Core.Path.{refl}
 use borrow.Author.Tests.{le-leb, lt-leb, lt-ltb, le-ltb}
+use Rattle.laws.specs.Refusals.{here, past}
 use Rattle.book.specs.Auctions.{auctionReasons, auctionRefusal}
-use Rattle.book.proofs.Chosen.{here, past}
 use Rattle.book.proofs.auction_refusal.Statement.{statement}
 use Rattle.book.proofs.auction_refusal.Tie as tie
 

@@ -1,10 +1,10 @@
 -- `book::award_at` meets its contract.
 use native.Mathlib.Omega.{arith}
 use mathlib.Core.Path.{_≡_}
+use Rattle.laws.specs.Asked.{fails, passes, within-low, within-high}
 use Rattle.plain.specs.Book.{noAward}
 use Rattle.tables.specs.Tables.{awards}
 use Rattle.book.specs.View.{view}
-use Rattle.book.proofs.Chosen.{fails, passes, within-low, within-high}
 use Rattle.book.proofs.Found.{missing, found}
 use borrow.Author.Needs.{needs}
 use Rattle.book.proofs.award_at.Statement.{statement}

@@ -1,8 +1,9 @@
 -- `book::award_refusal` meets its contract.
 use mathlib.Core.Path.{refl, ap}
 use mathlib.Core.Bool.{not}
+use Rattle.laws.specs.Asked.{fails, passes}
+use Rattle.laws.specs.Refusals.{here, past}
 use Rattle.book.specs.Auctions.{awardReasons, awardRefusal}
-use Rattle.book.proofs.Chosen.{here, past, fails, passes}
 use borrow.Author.Needs.{needs}
 use Rattle.book.proofs.award_refusal.Statement.{statement}
 use Rattle.book.proofs.award_refusal.Tie as tie

@@ -1,7 +1,7 @@
 -- `book::confirm_refusal` meets its contract.
 use mathlib.Core.Path.{refl}
+use Rattle.laws.specs.Refusals.{here, past}
 use Rattle.book.specs.Discharging.{confirmReasons, confirmRefusal}
-use Rattle.book.proofs.Chosen.{here, past}
 use Rattle.book.proofs.confirm_refusal.Statement.{statement}
 use Rattle.book.proofs.confirm_refusal.Tie as tie
 

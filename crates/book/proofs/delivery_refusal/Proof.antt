@@ -4,9 +4,9 @@ use native.Mathlib.Omega.{arith}
 use mathlib.Core.Path.{_≡_, refl, ap, sym, _∙_}
 use mathlib.Core.Bool.{not}
 use borrow.Author.Tests.{eq-eqb, ne-eqb, le-leb, lt-leb, lt-ltb, le-ltb}
+use Rattle.laws.specs.Refusals.{here, past}
 use Rattle.plain.specs.Dealing.{due}
 use Rattle.book.specs.Discharging.{deliveryReasons, deliveryRefusal}
-use Rattle.book.proofs.Chosen.{here, past}
 use borrow.Author.Needs.{needs}
 use Rattle.book.proofs.delivery_refusal.Statement.{statement}
 use Rattle.book.proofs.delivery_refusal.Tie as tie

@@ -1,5 +1,6 @@
 -- `book::offer` meets its contract.
 use mathlib.Core.Path.{_≡_, refl, ap, sym, _∙_}
+use Rattle.laws.specs.Asked.{within-low, within-high}
 use Rattle.events.specs.declared.Event.the-variants as event
 use Rattle.plain.specs.declared.Position.{Position}
 use Rattle.plain.specs.Book.{positionOf}
@@ -10,7 +11,6 @@ use Rattle.tables.specs.Tables.{positions}
 use Rattle.auction.specs.Members.{tested}
 use Rattle.book.specs.View.{view}
 use Rattle.book.specs.Auctions.{offerRefusal}
-use Rattle.book.proofs.Chosen.{within-low, within-high}
 use Rattle.book.proofs.Answers.{turned-down}
 use Rattle.book.proofs.Auctions.{answered, offer-first, offer-held, offer-then, members-fit, offer-room}
 use borrow.Author.Needs.{needs}

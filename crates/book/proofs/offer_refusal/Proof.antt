@@ -1,10 +1,10 @@
 -- `book::offer_refusal` meets its contract: each test that is passed is one reason less.
 use mathlib.Core.Path.{_≡_, refl, ap}
 use mathlib.Core.Bool.{false, not}
+use Rattle.laws.specs.Asked.{fails, passes, within}
+use Rattle.laws.specs.Refusals.{here, past}
 use Rattle.plain.specs.Refusals.{isMember, isQuantity, isPrice}
-use Rattle.book.specs.Entering.{within}
 use Rattle.book.specs.Auctions.{offerReasons, offerRefusal}
-use Rattle.book.proofs.Chosen.{here, past, fails, passes}
 use borrow.Author.Needs.{needs}
 use Rattle.book.proofs.offer_refusal.Statement.{statement}
 use Rattle.book.proofs.offer_refusal.Tie as tie

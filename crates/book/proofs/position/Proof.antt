@@ -1,10 +1,10 @@
 -- `book::position` meets its contract.
 use native.Mathlib.Omega.{arith}
 use mathlib.Core.Path.{_≡_}
+use Rattle.laws.specs.Asked.{fails, passes, within-low, within-high}
 use Rattle.plain.specs.Book.{noPosition}
 use Rattle.tables.specs.Tables.{positions}
 use Rattle.book.specs.View.{view}
-use Rattle.book.proofs.Chosen.{fails, passes, within-low, within-high}
 use Rattle.book.proofs.Found.{missing, found}
 use borrow.Author.Needs.{needs}
 use Rattle.book.proofs.position.Statement.{statement}

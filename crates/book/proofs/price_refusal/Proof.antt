@@ -1,6 +1,7 @@
 -- `book::price_refusal` meets its contract.
+use Rattle.laws.specs.Asked.{fails, passes}
+use Rattle.laws.specs.Refusals.{here, past}
 use Rattle.book.specs.Entering.{priceReasons, priceRefusal}
-use Rattle.book.proofs.Chosen.{here, past, fails, passes}
 use mathlib.Core.Path.{_≡_, refl, ap}
 use mathlib.Core.Bool.{not}
 use borrow.Author.Needs.{needs}

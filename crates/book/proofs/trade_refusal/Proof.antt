@@ -2,11 +2,11 @@
 use mathlib.Core.Path.{_≡_, refl, ap}
 use mathlib.Core.Bool.{true, false, not, _&&_}
 use borrow.Author.Tests.{eq-eqb, ne-eqb, le-leb, lt-leb}
-use Rattle.laws.specs.Asked.{both}
+use Rattle.laws.specs.Asked.{both, fails, passes, within}
+use Rattle.laws.specs.Refusals.{here, past}
 use Rattle.events.specs.declared.Trade.{Trade}
 use Rattle.plain.specs.Refusals.{isMember, isQuantity, isPrice}
-use Rattle.book.specs.Entering.{within, tradeReasons, tradeRefusal}
-use Rattle.book.proofs.Chosen.{here, past, fails, passes}
+use Rattle.book.specs.Entering.{tradeReasons, tradeRefusal}
 use borrow.Author.Needs.{needs}
 use Rattle.book.proofs.trade_refusal.Statement.{statement}
 use Rattle.book.proofs.trade_refusal.Tie as tie

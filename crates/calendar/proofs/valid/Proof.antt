@@ -1,28 +1,29 @@
 use borrow.Author.Needs.{needs}
 use borrow.Author.Tests.{le-leb, lt-leb}
+use Rattle.laws.specs.Asked.{within}
 use Rattle.calendar.specs.Dates.{valid}
 use Rattle.calendar.specs.Lengths.{by-day}
 use Rattle.calendar.proofs.valid.Statement.{statement}
 use Rattle.calendar.proofs.valid.Tie as tie
 
 returns : tie.Need-returns
-unfolding valid
+unfolding valid within
 returns c = search (needs, le-leb, lt-leb)
 
 returns-2 : tie.Need-returns-2
-unfolding valid
+unfolding valid within
 returns-2 c = search (needs, le-leb, lt-leb)
 
 returns-3 : tie.Need-returns-3
-unfolding valid
+unfolding valid within
 returns-3 c = search (needs, le-leb, lt-leb)
 
 returns-4 : tie.Need-returns-4
-unfolding valid
+unfolding valid within
 returns-4 c = search (needs, le-leb, lt-leb)
 
 returns-5 : tie.Need-returns-5
-unfolding valid
+unfolding valid within
 returns-5 c = search (needs, le-leb, lt-leb)
 
 month-length-requires : tie.Need-month-length-requires

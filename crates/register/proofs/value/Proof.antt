@@ -1,5 +1,5 @@
 -- `register::value` meets its contract.
-use Rattle.register.specs.Accepted.{within-low}
+use Rattle.laws.specs.Asked.{within-low}
 use mathlib.Core.Path.{sym, _∙_}
 use native.Mathlib.Omega.{arith}
 use Rattle.register.proofs.Digits.{letter-value, digit-value, other-value}

@@ -1,6 +1,6 @@
 -- `register::within` meets its contract.
 use borrow.Author.Tests.{le-leb, lt-leb}
-use Rattle.register.specs.Isin.{within}
+use Rattle.laws.specs.Asked.{within}
 use Rattle.register.proofs.within.Statement.{statement}
 use Rattle.register.proofs.within.Tie as tie
 
