@@ -1,7 +1,7 @@
 -- What is answered: a refusal of the register or the file, or the book before and after the events.
-use Prim.Native.Nat.{ℕ, _-_, _<_}
+use Prim.Native.Nat.{ℕ, _-_, _≤_, _<_}
 use native.Mathlib.Omega.{arith}
-use mathlib.Core.Path.{_≡_, ap, ap₂, sym, _∙_}
+use mathlib.Core.Path.{_≡_, refl, ap, ap₂, sym, _∙_, subst}
 use mathlib.Core.List.{List, []}
 use lib.ListN.{length, getD}
 use borrow.Author.Tests.{ne-eqb, lt-ltb, le-ltb}
@@ -13,6 +13,7 @@ use Rattle.events.specs.File.{refusal, eventsOf, count}
 use Rattle.events.specs.Passing.{passing, events-counted}
 use Rattle.plain.specs.Book as plain
 use Rattle.plain.specs.Book.{new}
+use Rattle.plain.specs.declared.Piece.{Piece}
 use Rattle.plain.specs.declared.Outcome.{Outcome}
 use Rattle.plain.specs.declared.Outcome.the-variants as outcome
 use Rattle.plain.specs.Calls.{call}
@@ -20,7 +21,8 @@ use Rattle.plain.specs.Refusals as plain-refusal
 use Rattle.plain.specs.Histories.{run, quantity}
 use Rattle.book.specs.declared.Book.{Book}
 use Rattle.book.specs.declared.Opened.{Opened}
-use Rattle.book.specs.View.{view, Valid, numberOf, quantityOf}
+use Rattle.book.specs.View.{view, Valid, Returned, numberOf, quantityOf}
+use Rattle.book.proofs.Stepping.{other-sheet}
 use Rattle.book.specs.Opening.{OpenedOn}
 use Rattle.replay.specs.declared.Replayed.{Replayed}
 use Rattle.replay.specs.Replay.{replayRefusal, callsOf, ReadyFor, ReplayedFrom, deciding, passing-file, beforeLast, LastAnswered}
@@ -79,3 +81,23 @@ module _ (b : plain.Book) (closes : ℕ) (events : List Event) (sheet : ℕ) whe
         number = rw there (number ∙ ap₂ (λ (q : plain.Book) (x : Event). plain-refusal.refusal q (call x sheet)) book is);
         quantity = rw there (quantity' ∙ ap₂ (λ (q : plain.Book) (x : Event). quantity q (call x sheet)) book is);
       }
+
+-- a sheet of 1,024 places or more is refused nothing for its length
+long-enough : (b : plain.Book) (e : Event) (n : ℕ) → 1024 ≤ n → plain-refusal.refusal b (call e 1024) ≡ plain-refusal.refusal b (call e n)
+unfolding plain-refusal.refusal plain-refusal.reasons
+long-enough b (event.Trade t) n h = refl
+long-enough b (event.Price p) n h = refl
+long-enough b (event.Delivery d) n h = rw (le-ltb n 1024 h)
+long-enough b (event.Attempt a) n h = refl
+long-enough b (event.Offer o) n h = refl
+long-enough b (event.Award a) n h = refl
+long-enough b (event.Confirm c) n h = rw (le-ltb n 1024 h)
+long-enough b (event.Cash c) n h = rw (le-ltb n 1024 h)
+long-enough b event.Close n h = refl
+
+-- what an event answered on a sheet of 1,024 places, it answers on any longer one
+pub on-longer : (b after : Book) (e : Event) (long places : ℕ) (o : Outcome) (xs : List Piece) → long ≡ 1024 → 1024 ≤ places → Returned b (call e long) after o xs
+    → (numberOf o ≡ plain-refusal.refusal (view b) (call e places)) × (quantityOf o ≡ quantity (view b) (call e places))
+on-longer b after e long places o xs is h r =
+    let same = other-sheet b e 1024 places (long-enough (view b) e places h) after o xs (subst (λ (n : ℕ). Returned b (call e n) after o xs) is r) in
+    (same .number, same .quantity)

@@ -3,10 +3,13 @@ ghost use Prim.Native.Nat.{_≤_};
 ghost use mathlib.Core.Path.{_≡_};
 ghost use lib.ListN.{length, take, replicate};
 ghost use Rattle.events.specs.File.{eventsOf, refusal};
-ghost use Rattle.plain.specs.Histories.{run};
-ghost use Rattle.book.specs.View.{view, Valid};
+ghost use Rattle.plain.specs.Calls.{call};
+ghost use Rattle.plain.specs.Refusals as plain;
+ghost use Rattle.plain.specs.Histories.{run, quantity};
+ghost use Rattle.book.specs.View.{view, Valid, numberOf, quantityOf};
 ghost use Rattle.replay.specs.Replay.{ReadyFor, ReplayedFrom, callsOf, closing, LastAnswered};
 use book::Book;
+use events::Event;
 use plain::Outcome;
 
 // What replaying answers: a refusal number, or 0, and the book after the last event.
@@ -86,6 +89,20 @@ fn closed(book: Book, closes: u32) -> Book
     after
 }
 
+// What an event answers on a sheet of so many places. A longer sheet than 1,024 places is not made: it answers as one of 1,024.
+fn outcome_on(book: Book, places: usize, e: Event) -> Outcome
+    requires { ⌜ Valid book ⌝ }
+    ensures { λ r. ⌜ (numberOf r ≡ plain.refusal (view book) (call e places)) × (quantityOf r ≡ quantity (view book) (call e places)) ⌝ }
+{
+    if places < 1024 {
+        let stepped = book::step(book, places, e);
+        return stepped.outcome;
+    }
+    let blank = sheet::blank_sheet();
+    let stepped = sheet::step_by_value(book, blank, e);
+    stepped.outcome
+}
+
 // What the last event of a file answers on a book that was closed so many times and then played the events before it, where
 // the last event's sheet has so many places. A file without events answers 0.
 pub fn last_answer(book: Book, closes: u32, file: &[u8], sheet: usize) -> Outcome
@@ -99,6 +116,5 @@ pub fn last_answer(book: Book, closes: u32, file: &[u8], sheet: usize) -> Outcom
     let later = closed(book, closes);
     let before = play(later, file, count - 1);
     let event = events::event_at(file, count - 1);
-    let stepped = book::step(before, sheet, event);
-    stepped.outcome
+    outcome_on(before, sheet, event)
 }

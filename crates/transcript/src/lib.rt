@@ -11,9 +11,7 @@ ghost use Rattle.transcript.specs.Transcript.{registerLength, endText};
 ghost use Rattle.transcript.specs.Playing.{StartedOn, BLOCK, END, ShownOn, PlayedOn};
 use book::Book;
 use events::Event;
-use plain::Manner;
 use plain::Outcome;
-use plain::Piece;
 
 // What the input answers before its first event: a refusal number, or 0; where its file begins; and the book of its register.
 pub struct Started {
@@ -40,20 +38,6 @@ const BLOCK: usize = 82_000;
 
 // A page with fewer bytes is too short for 1,024 positions and 64 accounts.
 const END: usize = 87_040;
-
-// The sheet that each call is lent.
-fn blank_sheet() -> [Piece; 1024]
-    ensures { λ r. ⌜ length r ≡ 1024 ⌝ }
-{
-    let piece = Piece {
-        short: 0,
-        long: 0,
-        quantity: 0,
-        manner: Manner::Delivered,
-        cents: 0,
-    };
-    [piece; 1024]
-}
 
 // Where the register ends, by its own count, or the input does.
 fn register_end(input: &[u8]) -> usize
@@ -118,7 +102,7 @@ fn play_discharge(page: &mut [u8], book: Book, e: Event, number: u32) -> Shown
     requires { ⌜ (Valid book) × (BLOCK ≤ length (now page)) ⌝ }
     ensures { λ r. ⌜ ShownOn book e number (now (page .entry)) (now (page .exit)) r ⌝ }
 {
-    let sheet = blank_sheet();
+    let sheet = sheet::blank_sheet();
     let stepped = sheet::step_by_value(book, sheet, e);
     let outcome = stepped.outcome;
     let items = stepped.items;

@@ -52,8 +52,8 @@ sub-event-at c = search needs
 event-at-requires : tie.Need-event-at-requires
 event-at-requires c κs = search needs
 
-step-requires : tie.Need-step-requires
-step-requires c κs = search needs
+outcome-on-requires : tie.Need-outcome-on-requires
+outcome-on-requires c κs = search needs
 
 returns-2 : tie.Need-returns-2
 returns-2 c =
@@ -66,12 +66,11 @@ returns-2 c =
     let long = events-counted file (passing file (start .pre .1) .long) in
     let last : k .event-count .result - 1 ≡ length events - 1 = omega (arith, long, k .event-count .ensures) in
     let some : 0 < length events = omega (arith, long, k .event-count .ensures, p .before .before .if1 .left) in
-    let r = c .step .ensures .returned in
-    last-some (view (start .args .book)) (start .args .closes) events (start .args .sheet) some (c .step .result .outcome) (view (p .play .result)) (e .event-at .result)
+    last-some (view (start .args .book)) (start .args .closes) events (start .args .sheet) some (c .outcome-on .result) (view (p .play .result)) (e .event-at .result)
     (p .play .ensures .0 ∙ ap (λ (b : plain.Book). run b (callsOf (take (k .event-count .result - 1) events))) (p .before .closed .ensures .0) ∙ ap (λ (n : ℕ). run (run (view (start .args .book)) (replicate (start .args .closes) closing)) (callsOf (take n events))) last)
     (e .event-at .ensures ∙ ap (λ (n : ℕ). getD events n event.Close) last)
-    (r .number)
-    (r .quantity)
+    (c .outcome-on .ensures .0)
+    (c .outcome-on .ensures .1)
 
 pub last-answer-spec : {M : Type 1} → statement M
 last-answer-spec =
@@ -85,5 +84,5 @@ last-answer-spec =
     play-requires
     sub-event-at
     event-at-requires
-    step-requires
+    outcome-on-requires
     returns-2)
