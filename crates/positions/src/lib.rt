@@ -113,8 +113,5 @@ pub fn deal(table: Positions, day: BusinessDay, short: u16, quantity: u32, manne
             i += 1;
         }
     }
-    Dealt {
-        positions: positions,
-        pieces: pieces,
-    }
+    Dealt { positions, pieces }
 }
