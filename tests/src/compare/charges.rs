@@ -1,132 +1,151 @@
 //! Day windows, prices, fees and fines.
 
-use crate::check::{Round, Tests};
+use crate::check::{Check, Round, Tests};
 use crate::random::Random;
 use crate::{charges, desk, windows};
 
 const CLASSES: [u8; 6] = [0, 1, 2, 3, 4, 255];
 
 pub fn exhaustive(tests: &mut Tests) {
-    tests.check("windows: edges of document 01", &[], |check| {
-        let class_1 = [(4, 0), (5, 4), (7, 4), (8, 8)].map(|(r, step)| (1, r, step));
-        let class_2 = [(26, 0), (27, 4), (28, 0), (30, 8), (36, 8), (37, 4)].map(|(r, step)| (2, r, step));
-        for (class, r, step) in class_1.into_iter().chain(class_2) {
-            let input = || format!("class {class} r {r}");
-            check.known(input, desk::step(class, r), windows::step(class, r) as u8, step);
-        }
-    });
-    tests.check("windows: every class byte, r 0 to 400 and 65,535", &[], |check| {
-        for class in 0..=u8::MAX {
-            for r in (0..=400).chain([u16::MAX]) {
-                let input = || format!("class {class} r {r}");
-                check.same(input, desk::step(class, r), windows::step(class, r) as u8);
-            }
-        }
-    });
-    tests.check("charges: edges of document 01", &[], |check| {
-        let mut edge = |name: &str, desk, second, known| check.known(|| name.to_string(), desk, second, known);
-        for (value, fee) in
-            [(1_000_019_999, 25_000), (1_000_020_000, 25_001), (4_000_000_001, 100_000), (u64::MAX, 100_000)]
-        {
-            edge(&format!("fee on {value}"), desk::cash_fee(value), charges::cash_fee(value), fee);
-        }
-        for (class, value, fine) in [
-            (1, 250_001_249, 100_000),
-            (1, 250_001_250, 100_001),
-            (2, 250_001_249, 100_000),
-            (2, 250_001_250, 100_001),
-            (3, 250_001_250, 100_000),
-        ] {
-            let name = format!("buy-in fine of class {class} on {value}");
-            edge(&name, desk::award_fine(class, value), charges::award_fine(class, value), fine);
-        }
-        for (value, fine) in [(4_999, 0), (5_000, 1)] {
-            edge(&format!("late fine on {value}"), desk::late_fine(value), charges::late_fine(value), fine);
-        }
-        for (class, ceiling) in [(1, 202), (2, 202), (3, 104)] {
-            let name = format!("ceiling of class {class} at 101");
-            edge(&name, desk::ceiling(class, 101), charges::ceiling(class, 101), ceiling);
-        }
-        let (desk, second) = (desk::cash_price(3, 1, 1, 20_000), charges::cash_price(3, 1, 1, 20_000));
-        edge("cash price of class 3 at 20,000", desk, second, 20_300);
-    });
-    tests.check("rounding: divisors 0 to 200, values 0 to 1,000", &[], |check| {
-        for divisor in 0..=200 {
-            for value in 0..=1_000 {
-                let input = || format!("value {value} divisor {divisor}");
-                check.same(input, desk::rounded(value, divisor), charges::rounded(value, divisor));
-            }
-        }
-    });
-    tests.check("fees and fines: each place where a quotient steps", &[], |check| {
-        // Half a divisor apart, from below the least charge to above the greatest.
-        for value in (990_000_000..4_010_000_000).step_by(20_000).flat_map(around) {
-            check.same(|| format!("fee on {value}"), desk::cash_fee(value), charges::cash_fee(value));
-        }
-        for value in (248_000_000..252_000_000).step_by(1_250).flat_map(around) {
-            for class in CLASSES {
-                let input = || format!("buy-in fine of class {class} on {value}");
-                check.same(input, desk::award_fine(class, value), charges::award_fine(class, value));
-            }
-        }
-        for value in (5_000..20_000_000).step_by(5_000).flat_map(around) {
-            check.same(|| format!("late fine on {value}"), desk::late_fine(value), charges::late_fine(value));
-        }
-    });
-    tests.check("prices: every price to 2,000 and the largest", &[], |check| {
-        for class in 0..=u8::MAX {
-            for latest in (0..=2_000).chain(u32::MAX - 50..=u32::MAX) {
-                let input = || format!("class {class} latest price {latest}");
-                check.same(input, desk::ceiling(class, latest), charges::ceiling(class, latest));
-            }
-        }
-    });
+    tests.check("windows: edges of document 01", &[], window_edges);
+    tests.check("windows: every class byte, r 0 to 400 and 65,535", &[], windows_of_every_class_byte);
+    tests.check("charges: edges of document 01", &[], charge_edges);
+    tests.check("rounding: divisors 0 to 200, values 0 to 1,000", &[], rounding_of_small_values);
+    tests.check("fees and fines: each place where a quotient steps", &[], steps_of_fees_and_fines);
+    tests.check("prices: every price to 2,000 and the largest", &[], ceilings_of_every_class_byte);
 }
 
 pub fn seeded(round: &mut Round) {
-    round.check("windows: random days", &[], |check, random| {
-        for _ in 0..20_000 {
-            let (class, r) = (random.pick(&CLASSES), random.sized_word() as u16);
+    round.check("windows: random days", &[], random_windows);
+    round.check("rounding: random values", &[], random_rounding);
+    round.check("fees and fines: random values", &[], random_fees_and_fines);
+    round.check("prices: random prices", &[], random_prices);
+}
+
+fn window_edges(check: &mut Check) {
+    let class_1 = [(4, 0), (5, 4), (7, 4), (8, 8)].map(|(r, step)| (1, r, step));
+    let class_2 = [(26, 0), (27, 4), (28, 0), (30, 8), (36, 8), (37, 4)].map(|(r, step)| (2, r, step));
+    for (class, r, step) in class_1.into_iter().chain(class_2) {
+        let input = || format!("class {class} r {r}");
+        check.known(input, desk::step(class, r), windows::step(class, r) as u8, step);
+    }
+}
+
+fn windows_of_every_class_byte(check: &mut Check) {
+    for class in 0..=u8::MAX {
+        for r in (0..=400).chain([u16::MAX]) {
             let input = || format!("class {class} r {r}");
             check.same(input, desk::step(class, r), windows::step(class, r) as u8);
         }
-    });
-    round.check("rounding: random values", &[], |check, random| {
-        for _ in 0..200_000 {
-            let divisor = random.sized_word() as u32;
-            // Near a half of the divisor, where rounding turns.
-            let halves = random.sized_word().saturating_mul(u64::from(divisor)) / 2;
-            let largest = u64::MAX - random.sized_word() % (u64::from(divisor) + 1);
-            for value in [random.sized_word(), halves.saturating_sub(1), halves, halves.saturating_add(1), largest] {
-                let input = || format!("value {value} divisor {divisor}");
-                check.same(input, desk::rounded(value, divisor), charges::rounded(value, divisor));
-            }
+    }
+}
+
+fn charge_edges(check: &mut Check) {
+    let mut edge = |name: &str, desk, second, known| check.known(|| name.to_string(), desk, second, known);
+    for (value, fee) in
+        [(1_000_019_999, 25_000), (1_000_020_000, 25_001), (4_000_000_001, 100_000), (u64::MAX, 100_000)]
+    {
+        edge(&format!("fee on {value}"), desk::cash_fee(value), charges::cash_fee(value), fee);
+    }
+    for (class, value, fine) in [
+        (1, 250_001_249, 100_000),
+        (1, 250_001_250, 100_001),
+        (2, 250_001_249, 100_000),
+        (2, 250_001_250, 100_001),
+        (3, 250_001_250, 100_000),
+    ] {
+        let name = format!("buy-in fine of class {class} on {value}");
+        edge(&name, desk::award_fine(class, value), charges::award_fine(class, value), fine);
+    }
+    for (value, fine) in [(4_999, 0), (5_000, 1)] {
+        edge(&format!("late fine on {value}"), desk::late_fine(value), charges::late_fine(value), fine);
+    }
+    for (class, ceiling) in [(1, 202), (2, 202), (3, 104)] {
+        let name = format!("ceiling of class {class} at 101");
+        edge(&name, desk::ceiling(class, 101), charges::ceiling(class, 101), ceiling);
+    }
+    let (desk, second) = (desk::cash_price(3, 1, 1, 20_000), charges::cash_price(3, 1, 1, 20_000));
+    edge("cash price of class 3 at 20,000", desk, second, 20_300);
+}
+
+fn rounding_of_small_values(check: &mut Check) {
+    for divisor in 0..=200 {
+        for value in 0..=1_000 {
+            let input = || format!("value {value} divisor {divisor}");
+            check.same(input, desk::rounded(value, divisor), charges::rounded(value, divisor));
         }
-    });
-    round.check("fees and fines: random values", &[], |check, random| {
-        for _ in 0..200_000 {
-            let value = any_value(random);
-            let class = random.pick(&CLASSES);
-            check.same(|| format!("fee on {value}"), desk::cash_fee(value), charges::cash_fee(value));
-            check.same(|| format!("late fine on {value}"), desk::late_fine(value), charges::late_fine(value));
+    }
+}
+
+fn steps_of_fees_and_fines(check: &mut Check) {
+    // Half a divisor apart, from below the least charge to above the greatest.
+    for value in (990_000_000..4_010_000_000).step_by(20_000).flat_map(around) {
+        check.same(|| format!("fee on {value}"), desk::cash_fee(value), charges::cash_fee(value));
+    }
+    for value in (248_000_000..252_000_000).step_by(1_250).flat_map(around) {
+        for class in CLASSES {
             let input = || format!("buy-in fine of class {class} on {value}");
             check.same(input, desk::award_fine(class, value), charges::award_fine(class, value));
         }
-    });
-    round.check("prices: random prices", &[], |check, random| {
-        for _ in 0..200_000 {
-            let class = random.pick(&CLASSES);
-            let latest = random.sized_word() as u32;
+    }
+    for value in (5_000..20_000_000).step_by(5_000).flat_map(around) {
+        check.same(|| format!("late fine on {value}"), desk::late_fine(value), charges::late_fine(value));
+    }
+}
+
+fn ceilings_of_every_class_byte(check: &mut Check) {
+    for class in 0..=u8::MAX {
+        for latest in (0..=2_000).chain(u32::MAX - 50..=u32::MAX) {
             let input = || format!("class {class} latest price {latest}");
             check.same(input, desk::ceiling(class, latest), charges::ceiling(class, latest));
-            // References about as high as the latest price raised, so that each of the three is highest at times.
-            let [short, long] = [(); 2].map(|_| near_raised(random, latest));
-            let input =
-                || format!("class {class} short's reference {short} long's reference {long} latest price {latest}");
-            let second = charges::cash_price(class, short, long, latest);
-            check.same(input, desk::cash_price(class, short, long, latest), second);
         }
-    });
+    }
+}
+
+fn random_windows(check: &mut Check, random: &mut Random) {
+    for _ in 0..20_000 {
+        let (class, r) = (random.pick(&CLASSES), random.sized_word() as u16);
+        let input = || format!("class {class} r {r}");
+        check.same(input, desk::step(class, r), windows::step(class, r) as u8);
+    }
+}
+
+fn random_rounding(check: &mut Check, random: &mut Random) {
+    for _ in 0..200_000 {
+        let divisor = random.sized_word() as u32;
+        // Near a half of the divisor, where rounding turns.
+        let halves = random.sized_word().saturating_mul(u64::from(divisor)) / 2;
+        let largest = u64::MAX - random.sized_word() % (u64::from(divisor) + 1);
+        for value in [random.sized_word(), halves.saturating_sub(1), halves, halves.saturating_add(1), largest] {
+            let input = || format!("value {value} divisor {divisor}");
+            check.same(input, desk::rounded(value, divisor), charges::rounded(value, divisor));
+        }
+    }
+}
+
+fn random_fees_and_fines(check: &mut Check, random: &mut Random) {
+    for _ in 0..200_000 {
+        let value = any_value(random);
+        let class = random.pick(&CLASSES);
+        check.same(|| format!("fee on {value}"), desk::cash_fee(value), charges::cash_fee(value));
+        check.same(|| format!("late fine on {value}"), desk::late_fine(value), charges::late_fine(value));
+        let input = || format!("buy-in fine of class {class} on {value}");
+        check.same(input, desk::award_fine(class, value), charges::award_fine(class, value));
+    }
+}
+
+fn random_prices(check: &mut Check, random: &mut Random) {
+    for _ in 0..200_000 {
+        let class = random.pick(&CLASSES);
+        let latest = random.sized_word() as u32;
+        let input = || format!("class {class} latest price {latest}");
+        check.same(input, desk::ceiling(class, latest), charges::ceiling(class, latest));
+        // References about as high as the latest price raised, so that each of the three is highest at times.
+        let [short, long] = [(); 2].map(|_| near_raised(random, latest));
+        let input = || format!("class {class} short's reference {short} long's reference {long} latest price {latest}");
+        let second = charges::cash_price(class, short, long, latest);
+        check.same(input, desk::cash_price(class, short, long, latest), second);
+    }
 }
 
 fn around(value: u64) -> [u64; 3] {

@@ -12,154 +12,183 @@ use crate::refusal::Refusal;
 const MARGIN: usize = 40;
 
 pub fn exhaustive(tests: &mut Tests) {
-    tests.check("files: none, few and the most events", &[0, 5], |check| {
-        let mut random = Random::new(0, "counts");
-        for count in [0, 1, 2, 255, 256, 257, 2_047, MOST_EVENTS, MOST_EVENTS + 1, 4_096, 65_535] {
-            let file = events::file_of(&random_events(&mut random, count));
-            let expected = if count <= 2_048 { Answer::accepted(count as u32) } else { Answer::refused(5) };
-            known(check, &file, expected);
-        }
-        // Lengths that are right in their low bytes.
-        for more in [256, 65_536] {
-            let file = events::file_of(&random_events(&mut random, 3));
-            known(check, &[file, vec![0; more]].concat(), Answer::refused(5));
-        }
-    });
-    tests.check("files: each kind byte", &[0, 6], |check| {
-        let mut random = Random::new(0, "kinds");
-        let two = [random_event(&mut random, 1), random_event(&mut random, 5)];
-        for kind in 0..=u8::MAX {
-            let expected = if (1..=9).contains(&kind) { Answer::accepted(1) } else { Answer::refused(6) };
-            known(check, &file_of_bodies(&[(kind, [0; WIDTH])]), expected);
-            let mut file = events::file_of(&two);
-            file[4 + 1] = kind;
-            read(check, &file);
-            file.swap(4, 5);
-            read(check, &file);
-        }
-    });
-    tests.check("files: each value of each body byte of each kind", &[0, 7], |check| {
-        let mut random = Random::new(0, "spare bytes");
-        for kind in 1..=9 {
-            for at in 0..WIDTH {
-                for value in 0..=u8::MAX {
-                    let mut body = [0; WIDTH];
-                    body[at] = value;
-                    let spare = value != 0 && !used(kind).contains(&at);
-                    let expected = if spare { Answer::refused(7) } else { Answer::accepted(1) };
-                    known(check, &file_of_bodies(&[(kind, body)]), expected);
-                    let mut body = random_event(&mut random, kind).body();
-                    body[at] = value;
-                    read(check, &file_of_bodies(&[(kind, body)]));
-                }
-            }
-        }
-    });
-    tests.check("files: each small count with each length", &[0, 5], |check| {
-        for count in (0..=4).chain([256, 257, 258, 2_048, 2_049, 65_535]) {
-            for length in 0..=events::length(3) {
-                // Closes alone, so that nothing but the size decides.
-                let mut file = vec![0; length.max(4)];
-                file[..2].copy_from_slice(&u16::to_le_bytes(count));
-                file[2] = WIDTH as u8;
-                file.iter_mut().skip(4).take(usize::from(count)).for_each(|kind| *kind = 9);
-                read(check, &file[..length]);
-            }
-        }
-    });
-    tests.check("files: each width", &[0, 5], |check| {
-        let file = events::file_of(&random_events(&mut Random::new(0, "widths"), 3));
-        for width in 0..=u16::MAX {
-            let mut file = file.clone();
-            file[2..4].copy_from_slice(&width.to_le_bytes());
-            read(check, &file);
-        }
-    });
-    tests.check("files: faults of two events, in both orders", &[6, 7], |check| {
-        // The earlier event decides; within an event the kind comes before the spare bytes.
-        let [mut spare, set] = [[0; WIDTH], [1; WIDTH]];
-        spare[15] = 1;
-        let faults = [(0, [0; WIDTH], 6), (10, set, 6), (255, set, 6), (9, set, 7), (1, spare, 7), (4, spare, 7)];
-        for (kind, body, refusal) in faults {
-            for (later_kind, later_body, _) in faults {
-                let file = file_of_bodies(&[(2, [0; WIDTH]), (kind, body), (later_kind, later_body)]);
-                known(check, &file, Answer::refused(refusal));
-            }
-        }
-    });
-    tests.check("pages: each size around the file's", &[0, 5, 6, 7], |check| {
-        let mut random = Random::new(0, "pages");
-        for count in [0, 1, 2, 7] {
-            let file = events::file_of(&random_events(&mut random, count));
-            for size in 0..=file.len() + 40 {
-                copy(check, &mut random, &file, size);
-            }
-        }
-        let refused = [file_of_bodies(&[(10, [0; WIDTH])]), file_of_bodies(&[(9, [1; WIDTH])]), vec![1, 0, 16]];
-        for file in &refused {
-            for size in 0..=file.len() + 40 {
-                copy(check, &mut random, file, size);
-            }
-        }
-        for count in [MOST_EVENTS - 1, MOST_EVENTS, MOST_EVENTS + 1] {
-            let file = events::file_of(&random_events(&mut random, count));
-            for size in file.len() - 20..=file.len() + 20 {
-                copy(check, &mut random, &file, size);
-            }
-        }
-    });
+    tests.check("files: none, few and the most events", &[0, 5], counts_of_events);
+    tests.check("files: each kind byte", &[0, 6], each_kind_byte);
+    tests.check("files: each value of each body byte of each kind", &[0, 7], each_value_of_each_body_byte);
+    tests.check("files: each small count with each length", &[0, 5], counts_with_lengths);
+    tests.check("files: each width", &[0, 5], each_width);
+    tests.check("files: faults of two events, in both orders", &[6, 7], faults_of_two_events);
+    tests.check("pages: each size around the file's", &[0, 5, 6, 7], page_sizes);
 }
 
 pub fn seeded(round: &mut Round) {
-    round.check("files: random events", &[0], |check, random| {
-        for _ in 0..3_000 {
-            let count = random.below(64);
-            read(check, &events::file_of(&random_events(random, count)));
-        }
-    });
-    round.check("files: damaged", &[0, 5, 6, 7], |check, random| {
-        for _ in 0..20_000 {
-            read(check, &damaged_file(random));
-        }
-    });
-    round.check("files: long and damaged in one place", &[0, 5, 6, 7], |check, random| {
-        let whole = events::file_of(&random_events(random, MOST_EVENTS));
-        for _ in 0..300 {
-            let mut file = whole.clone();
-            match random.below(3) {
-                0 => damage(random, &mut file),
-                1 => file[4 + random.below(MOST_EVENTS)] = random.byte(),
-                _ => {
-                    let at = random.between(4 + MOST_EVENTS, file.len() - 1);
-                    file[at] ^= 1 << random.below(8);
-                }
+    round.check("files: random events", &[0], random_files);
+    round.check("files: damaged", &[0, 5, 6, 7], damaged_files);
+    round.check("files: long and damaged in one place", &[0, 5, 6, 7], long_files_damaged_in_one_place);
+    round.check("files: random bytes", &[0, 5, 6, 7], files_of_random_bytes);
+    round.check("pages: random files and sizes", &[0, 5, 6, 7], random_files_and_page_sizes);
+}
+
+fn counts_of_events(check: &mut Check) {
+    let mut random = Random::new(0, "counts");
+    for count in [0, 1, 2, 255, 256, 257, 2_047, MOST_EVENTS, MOST_EVENTS + 1, 4_096, 65_535] {
+        let file = events::file_of(&random_events(&mut random, count));
+        let expected = if count <= 2_048 { Answer::accepted(count as u32) } else { Answer::refused(5) };
+        known(check, &file, expected);
+    }
+    // Lengths that are right in their low bytes.
+    for more in [256, 65_536] {
+        let file = events::file_of(&random_events(&mut random, 3));
+        known(check, &[file, vec![0; more]].concat(), Answer::refused(5));
+    }
+}
+
+fn each_kind_byte(check: &mut Check) {
+    let mut random = Random::new(0, "kinds");
+    let two = [random_event(&mut random, 1), random_event(&mut random, 5)];
+    for kind in 0..=u8::MAX {
+        let expected = if (1..=9).contains(&kind) { Answer::accepted(1) } else { Answer::refused(6) };
+        known(check, &file_of_bodies(&[(kind, [0; WIDTH])]), expected);
+        let mut file = events::file_of(&two);
+        file[4 + 1] = kind;
+        read(check, &file);
+        file.swap(4, 5);
+        read(check, &file);
+    }
+}
+
+fn each_value_of_each_body_byte(check: &mut Check) {
+    let mut random = Random::new(0, "spare bytes");
+    for kind in 1..=9 {
+        for at in 0..WIDTH {
+            for value in 0..=u8::MAX {
+                body_byte(check, &mut random, kind, at, value);
             }
-            read(check, &file);
         }
-    });
-    round.check("files: random bytes", &[0, 5, 6, 7], |check, random| {
-        for _ in 0..10_000 {
-            let count = random.below(6);
-            let mut file = random.bytes(events::length(count));
-            // Else the header is hardly ever right.
-            if random.one_in(2) {
-                file[..4].copy_from_slice(&[count as u8, 0, WIDTH as u8, 0]);
-                file[4..4 + count].iter_mut().for_each(|kind| *kind %= 11);
+    }
+}
+
+/// The value in a body of zeros, where the answer is known, and in a random body.
+fn body_byte(check: &mut Check, random: &mut Random, kind: u8, at: usize, value: u8) {
+    let mut body = [0; WIDTH];
+    body[at] = value;
+    let spare = value != 0 && !used(kind).contains(&at);
+    let expected = if spare { Answer::refused(7) } else { Answer::accepted(1) };
+    known(check, &file_of_bodies(&[(kind, body)]), expected);
+    let mut body = random_event(random, kind).body();
+    body[at] = value;
+    read(check, &file_of_bodies(&[(kind, body)]));
+}
+
+fn counts_with_lengths(check: &mut Check) {
+    for count in (0..=4).chain([256, 257, 258, 2_048, 2_049, 65_535]) {
+        for length in 0..=events::length(3) {
+            // Closes alone, so that nothing but the size decides.
+            let mut file = vec![0; length.max(4)];
+            file[..2].copy_from_slice(&u16::to_le_bytes(count));
+            file[2] = WIDTH as u8;
+            file.iter_mut().skip(4).take(usize::from(count)).for_each(|kind| *kind = 9);
+            read(check, &file[..length]);
+        }
+    }
+}
+
+fn each_width(check: &mut Check) {
+    let file = events::file_of(&random_events(&mut Random::new(0, "widths"), 3));
+    for width in 0..=u16::MAX {
+        let mut file = file.clone();
+        file[2..4].copy_from_slice(&width.to_le_bytes());
+        read(check, &file);
+    }
+}
+
+fn faults_of_two_events(check: &mut Check) {
+    // The earlier event decides; within an event the kind comes before the spare bytes.
+    let [mut spare, set] = [[0; WIDTH], [1; WIDTH]];
+    spare[15] = 1;
+    let faults = [(0, [0; WIDTH], 6), (10, set, 6), (255, set, 6), (9, set, 7), (1, spare, 7), (4, spare, 7)];
+    for (kind, body, refusal) in faults {
+        for (later_kind, later_body, _) in faults {
+            let file = file_of_bodies(&[(2, [0; WIDTH]), (kind, body), (later_kind, later_body)]);
+            known(check, &file, Answer::refused(refusal));
+        }
+    }
+}
+
+fn page_sizes(check: &mut Check) {
+    let mut random = Random::new(0, "pages");
+    for count in [0, 1, 2, 7] {
+        let file = events::file_of(&random_events(&mut random, count));
+        for size in 0..=file.len() + 40 {
+            copy(check, &mut random, &file, size);
+        }
+    }
+    let refused = [file_of_bodies(&[(10, [0; WIDTH])]), file_of_bodies(&[(9, [1; WIDTH])]), vec![1, 0, 16]];
+    for file in &refused {
+        for size in 0..=file.len() + 40 {
+            copy(check, &mut random, file, size);
+        }
+    }
+    for count in [MOST_EVENTS - 1, MOST_EVENTS, MOST_EVENTS + 1] {
+        let file = events::file_of(&random_events(&mut random, count));
+        for size in file.len() - 20..=file.len() + 20 {
+            copy(check, &mut random, &file, size);
+        }
+    }
+}
+
+fn random_files(check: &mut Check, random: &mut Random) {
+    for _ in 0..3_000 {
+        let count = random.below(64);
+        read(check, &events::file_of(&random_events(random, count)));
+    }
+}
+
+fn damaged_files(check: &mut Check, random: &mut Random) {
+    for _ in 0..20_000 {
+        read(check, &damaged_file(random));
+    }
+}
+
+fn long_files_damaged_in_one_place(check: &mut Check, random: &mut Random) {
+    let whole = events::file_of(&random_events(random, MOST_EVENTS));
+    for _ in 0..300 {
+        let mut file = whole.clone();
+        match random.below(3) {
+            0 => damage(random, &mut file),
+            1 => file[4 + random.below(MOST_EVENTS)] = random.byte(),
+            _ => {
+                let at = random.between(4 + MOST_EVENTS, file.len() - 1);
+                file[at] ^= 1 << random.below(8);
             }
-            read(check, &file);
         }
-    });
-    round.check("pages: random files and sizes", &[0, 5, 6, 7], |check, random| {
-        for _ in 0..10_000 {
-            let file = damaged_file(random);
-            let size = match random.below(4) {
-                0 => random.below(file.len() + 100),
-                1 => file.len(),
-                _ => (file.len() + random.below(5)).saturating_sub(2),
-            };
-            copy(check, random, &file, size);
+        read(check, &file);
+    }
+}
+
+fn files_of_random_bytes(check: &mut Check, random: &mut Random) {
+    for _ in 0..10_000 {
+        let count = random.below(6);
+        let mut file = random.bytes(events::length(count));
+        // Else the header is hardly ever right.
+        if random.one_in(2) {
+            file[..4].copy_from_slice(&[count as u8, 0, WIDTH as u8, 0]);
+            file[4..4 + count].iter_mut().for_each(|kind| *kind %= 11);
         }
-    });
+        read(check, &file);
+    }
+}
+
+fn random_files_and_page_sizes(check: &mut Check, random: &mut Random) {
+    for _ in 0..10_000 {
+        let file = damaged_file(random);
+        let size = match random.below(4) {
+            0 => random.below(file.len() + 100),
+            1 => file.len(),
+            _ => (file.len() + random.below(5)).saturating_sub(2),
+        };
+        copy(check, random, &file, size);
+    }
 }
 
 fn second(file: &[u8]) -> Result<u32, Refusal> {

@@ -38,104 +38,15 @@ const REAL_ISINS: [&[u8; 12]; 24] = [
 ];
 
 pub fn exhaustive(tests: &mut Tests) {
-    tests.check("ISINs: real ones", &[0, 3], |check| {
-        for isin in REAL_ISINS {
-            known(check, &[(1, *isin)], Answer::accepted(1));
-        }
-        known(check, &[(1, *b"XX0000000003")], Answer::refused(3));
-    });
-    tests.check("ISINs: real ones with one character changed to each byte", &[0, 3], |check| {
-        for isin in REAL_ISINS {
-            for at in 0..12 {
-                for byte in 0..=u8::MAX {
-                    let mut changed = *isin;
-                    changed[at] = byte;
-                    compare(check, &register_of(&[(1, changed)]));
-                }
-            }
-        }
-    });
-    tests.check("ISINs: real ones with one digit changed to another", &[3], |check| {
-        // The check digit catches each of these, so the answer is known.
-        for isin in REAL_ISINS {
-            for at in (0..12).filter(|&at| isin[at].is_ascii_digit()) {
-                for &digit in DIGITS.iter().filter(|&&digit| digit != isin[at]) {
-                    let mut changed = *isin;
-                    changed[at] = digit;
-                    known(check, &[(1, changed)], Answer::refused(3));
-                }
-            }
-        }
-    });
-    tests.check("ISINs: real ones with two neighbours swapped", &[0, 3], |check| {
-        for isin in REAL_ISINS {
-            for at in 0..11 {
-                let mut swapped = *isin;
-                swapped.swap(at, at + 1);
-                compare(check, &register_of(&[(1, swapped)]));
-            }
-        }
-    });
-    tests.check("registers: counts 0 to 34 with lengths of 0 to 33 securities", &[0, 1], |check| {
-        let whole = register_of(&different(&mut Random::new(0, "securities"), 33));
-        for count in 0..=34_u16 {
-            for shape in 0..=33 {
-                let mut bytes = shaped(&whole, 33, shape);
-                bytes[..2].copy_from_slice(&count.to_le_bytes());
-                compare(check, &bytes);
-                compare(check, &[&bytes[..], &[0]].concat());
-                compare(check, &bytes[..bytes.len() - 1]);
-            }
-        }
-        // Counts of which one byte alone would pass, and lengths that are right in their low bytes.
-        for (count, kept) in [(0x0101_u16, 1), (0x0120, 32), (0x8001, 1), (0x0100, 1), (0x2000, 32)] {
-            let mut bytes = shaped(&whole, 33, kept);
-            bytes[..2].copy_from_slice(&count.to_le_bytes());
-            compare(check, &bytes);
-        }
-        for more in [256, 65_536] {
-            compare(check, &[register_of(&[(1, *REAL_ISINS[0])]), vec![0; more]].concat());
-        }
-    });
-    tests.check("registers: each class byte", &[0, 2], |check| {
-        for class in 0..=u8::MAX {
-            compare(check, &register_of(&[(class, *REAL_ISINS[0])]));
-            compare(check, &register_of(&[(1, *REAL_ISINS[0]), (class, *REAL_ISINS[1])]));
-        }
-    });
-    tests.check("registers: each pair of places with one ISIN", &[4], |check| {
-        let securities = different(&mut Random::new(0, "pairs"), 32);
-        for later in 0..32 {
-            for earlier in 0..later {
-                let mut repeated = securities.clone();
-                repeated[later].1 = repeated[earlier].1;
-                known(check, &repeated, Answer::refused(4));
-            }
-        }
-    });
-    tests.check("registers: two ISINs that differ in one character and the check digit", &[0], |check| {
-        for isin in REAL_ISINS {
-            for at in 0..11 {
-                let digits = if at < 2 { &[][..] } else { DIGITS };
-                for &other in CAPITALS.iter().chain(digits).filter(|&&other| other != isin[at]) {
-                    let mut near = *isin;
-                    near[at] = other;
-                    known(check, &[(1, *isin), (1, completed(near))], Answer::accepted(2));
-                }
-            }
-        }
-    });
-    tests.check("registers: faults of two entries, in both orders", &[2, 3, 4], |check| {
-        // Each fault as entry 2 and as entry 3: the earlier entry decides; within an entry, class before ISIN.
-        let [first, other] = [*REAL_ISINS[0], *REAL_ISINS[1]];
-        let faults = [(0, other, 2), (0, first, 2), (4, *b"XX0000000003", 2), (1, *b"XX0000000003", 3), (1, first, 4)];
-        for (class, isin, refusal) in faults {
-            for (later_class, later_isin, _) in faults {
-                let entries = [(1, first), (class, isin), (later_class, later_isin)];
-                known(check, &entries, Answer::refused(refusal));
-            }
-        }
-    });
+    tests.check("ISINs: real ones", &[0, 3], real_isins);
+    tests.check("ISINs: real ones with one character changed to each byte", &[0, 3], isins_with_one_character_changed);
+    tests.check("ISINs: real ones with one digit changed to another", &[3], isins_with_one_digit_changed);
+    tests.check("ISINs: real ones with two neighbours swapped", &[0, 3], isins_with_neighbours_swapped);
+    tests.check("registers: counts 0 to 34 with lengths of 0 to 33 securities", &[0, 1], counts_with_lengths);
+    tests.check("registers: each class byte", &[0, 2], each_class_byte);
+    tests.check("registers: each pair of places with one ISIN", &[4], each_pair_of_places_with_one_isin);
+    tests.check("registers: two ISINs that differ in one character and the check digit", &[0], two_isins_almost_alike);
+    tests.check("registers: faults of two entries, in both orders", &[2, 3, 4], faults_of_two_entries);
 }
 
 pub fn seeded(round: &mut Round) {
@@ -172,6 +83,113 @@ pub fn seeded(round: &mut Round) {
             }
         }
     });
+}
+
+fn real_isins(check: &mut Check) {
+    for isin in REAL_ISINS {
+        known(check, &[(1, *isin)], Answer::accepted(1));
+    }
+    known(check, &[(1, *b"XX0000000003")], Answer::refused(3));
+}
+
+fn isins_with_one_character_changed(check: &mut Check) {
+    for isin in REAL_ISINS {
+        for at in 0..12 {
+            for byte in 0..=u8::MAX {
+                let mut changed = *isin;
+                changed[at] = byte;
+                compare(check, &register_of(&[(1, changed)]));
+            }
+        }
+    }
+}
+
+fn isins_with_one_digit_changed(check: &mut Check) {
+    // The check digit catches each of these, so the answer is known.
+    for isin in REAL_ISINS {
+        for at in (0..12).filter(|&at| isin[at].is_ascii_digit()) {
+            for &digit in DIGITS.iter().filter(|&&digit| digit != isin[at]) {
+                let mut changed = *isin;
+                changed[at] = digit;
+                known(check, &[(1, changed)], Answer::refused(3));
+            }
+        }
+    }
+}
+
+fn isins_with_neighbours_swapped(check: &mut Check) {
+    for isin in REAL_ISINS {
+        for at in 0..11 {
+            let mut swapped = *isin;
+            swapped.swap(at, at + 1);
+            compare(check, &register_of(&[(1, swapped)]));
+        }
+    }
+}
+
+fn counts_with_lengths(check: &mut Check) {
+    let whole = register_of(&different(&mut Random::new(0, "securities"), 33));
+    for count in 0..=34_u16 {
+        for shape in 0..=33 {
+            let mut bytes = shaped(&whole, 33, shape);
+            bytes[..2].copy_from_slice(&count.to_le_bytes());
+            compare(check, &bytes);
+            compare(check, &[&bytes[..], &[0]].concat());
+            compare(check, &bytes[..bytes.len() - 1]);
+        }
+    }
+    // Counts of which one byte alone would pass, and lengths that are right in their low bytes.
+    for (count, kept) in [(0x0101_u16, 1), (0x0120, 32), (0x8001, 1), (0x0100, 1), (0x2000, 32)] {
+        let mut bytes = shaped(&whole, 33, kept);
+        bytes[..2].copy_from_slice(&count.to_le_bytes());
+        compare(check, &bytes);
+    }
+    for more in [256, 65_536] {
+        compare(check, &[register_of(&[(1, *REAL_ISINS[0])]), vec![0; more]].concat());
+    }
+}
+
+fn each_class_byte(check: &mut Check) {
+    for class in 0..=u8::MAX {
+        compare(check, &register_of(&[(class, *REAL_ISINS[0])]));
+        compare(check, &register_of(&[(1, *REAL_ISINS[0]), (class, *REAL_ISINS[1])]));
+    }
+}
+
+fn each_pair_of_places_with_one_isin(check: &mut Check) {
+    let securities = different(&mut Random::new(0, "pairs"), 32);
+    for later in 0..32 {
+        for earlier in 0..later {
+            let mut repeated = securities.clone();
+            repeated[later].1 = repeated[earlier].1;
+            known(check, &repeated, Answer::refused(4));
+        }
+    }
+}
+
+fn two_isins_almost_alike(check: &mut Check) {
+    for isin in REAL_ISINS {
+        for at in 0..11 {
+            let digits = if at < 2 { &[][..] } else { DIGITS };
+            for &other in CAPITALS.iter().chain(digits).filter(|&&other| other != isin[at]) {
+                let mut near = *isin;
+                near[at] = other;
+                known(check, &[(1, *isin), (1, completed(near))], Answer::accepted(2));
+            }
+        }
+    }
+}
+
+fn faults_of_two_entries(check: &mut Check) {
+    // Each fault as entry 2 and as entry 3: the earlier entry decides; within an entry, class before ISIN.
+    let [first, other] = [*REAL_ISINS[0], *REAL_ISINS[1]];
+    let faults = [(0, other, 2), (0, first, 2), (4, *b"XX0000000003", 2), (1, *b"XX0000000003", 3), (1, first, 4)];
+    for (class, isin, refusal) in faults {
+        for (later_class, later_isin, _) in faults {
+            let entries = [(1, first), (class, isin), (later_class, later_isin)];
+            known(check, &entries, Answer::refused(refusal));
+        }
+    }
 }
 
 fn second(bytes: &[u8]) -> Result<u32, Refusal> {

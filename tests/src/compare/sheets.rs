@@ -13,56 +13,13 @@ const SHEETS: [u32; 6] = [0, 1, 1_023, 1_024, 1_025, 65_536];
 /// After 9,998 closes it is day 9,999; further ones are refused.
 const CLOSES: [u32; 4] = [9_997, 9_998, 9_999, 20_000];
 
+const TRADE: Event = Event::Trade { security: 1, seller: 1, buyer: 2, quantity: 100, price: 1_000 };
+const DELIVERY: Event = Event::Delivery { short: 1, quantity: 60 };
+
 pub fn exhaustive(tests: &mut Tests) {
-    let trade = Event::Trade { security: 1, seller: 1, buyer: 2, quantity: 100, price: 1_000 };
-    let delivery = Event::Delivery { short: 1, quantity: 60 };
-    tests.check("sheets: a delivery and what is no discharge", &[0, 8, 11], |check| {
-        for sheet in SHEETS {
-            let enough = sheet >= 1_024;
-            let delivered = if enough { Answer::accepted(60) } else { Answer::refused(8) };
-            known(check, &[trade, Event::Close, Event::Close, delivery], 0, sheet, delivered);
-            // A short sheet is the first reason.
-            let not_there = Answer::refused(if enough { 11 } else { 8 });
-            for discharge in [delivery, Event::Confirm { award: 1 }, Event::Cash { short: 1 }] {
-                known(check, &[discharge], 0, sheet, not_there);
-            }
-            // The other calls have no sheet.
-            known(check, &[trade], 0, sheet, Answer::accepted(100));
-            known(check, &[Event::Close], 0, sheet, Answer::accepted(0));
-            known(check, &[Event::Attempt { short: 1 }], 0, sheet, Answer::refused(11));
-            known(check, &[], 0, sheet, Answer::accepted(0));
-        }
-    });
-    tests.check("sheets: day 9,999", &[0, 17, 26], |check| {
-        for (closes, refusal) in CLOSES.into_iter().zip([0, 26, 26, 26]) {
-            known(check, &[Event::Close], closes, 1_024, Answer::refused(refusal));
-            known(check, &[Event::Close, Event::Close], closes, 1_024, Answer::refused(26));
-            known(check, &[Event::Close, trade], closes, 1_024, Answer::accepted(100));
-        }
-        // Traded on day 9,997 it is due on the last day, traded on day 9,998 it never is.
-        let history = [trade, Event::Close, Event::Close, delivery, Event::Close];
-        known(check, &history[..4], 9_996, 1_024, Answer::accepted(60));
-        known(check, &history, 9_996, 1_024, Answer::refused(26));
-        known(check, &history[..4], 9_997, 1_024, Answer::refused(17));
-        known(check, &history, 9_995, 1_024, Answer::accepted(0));
-    });
-    tests.check("sheets: buy-in and cash settlement on day 9,999", &[0, 8, 18, 26], |check| {
-        let price = Event::Price { security: 1, price: 1_100 };
-        let offer = Event::Offer { short: 1, offerer: 3, quantity: 60, price: 1_200 };
-        let [attempt, award] = [Event::Attempt { short: 1 }, Event::Award { short: 1 }];
-        let confirm = Event::Confirm { award: 1 };
-        let late = |days: usize, steps: &[Event]| [&[trade, price], &vec![Event::Close; days][..], steps].concat();
-        // Traded on day 9,992, the short is in its attempt window on the last day.
-        known(check, &late(7, &[attempt]), 9_991, 1_023, Answer::accepted(0));
-        known(check, &late(7, &[attempt, Event::Close]), 9_991, 1_024, Answer::refused(18));
-        known(check, &late(7, &[attempt, offer, award]), 9_991, 1_023, Answer::accepted(60));
-        known(check, &late(7, &[attempt, offer, award, confirm]), 9_991, 1_023, Answer::refused(8));
-        known(check, &late(7, &[attempt, offer, award, confirm]), 9_991, 1_024, Answer::accepted(60));
-        known(check, &late(7, &[attempt, award, Event::Close]), 9_991, 1_024, Answer::refused(26));
-        // Traded on day 9,989, it can be settled in cash.
-        known(check, &late(10, &[Event::Cash { short: 1 }]), 9_988, 1_024, Answer::accepted(100));
-        known(check, &late(10, &[Event::Cash { short: 1 }]), 9_988, 1_023, Answer::refused(8));
-    });
+    tests.check("sheets: a delivery and what is no discharge", &[0, 8, 11], delivery_and_what_is_no_discharge);
+    tests.check("sheets: day 9,999", &[0, 17, 26], last_business_day);
+    tests.check("sheets: buy-in and cash settlement on day 9,999", &[0, 8, 18, 26], last_buy_in_and_cash_settlement);
 }
 
 pub fn seeded(round: &mut Round) {
@@ -88,6 +45,56 @@ pub fn seeded(round: &mut Round) {
             compare(check, &input, random.below(3) as u32, random.pick(&SHEETS));
         }
     });
+}
+
+fn delivery_and_what_is_no_discharge(check: &mut Check) {
+    for sheet in SHEETS {
+        let enough = sheet >= 1_024;
+        let delivered = if enough { Answer::accepted(60) } else { Answer::refused(8) };
+        known(check, &[TRADE, Event::Close, Event::Close, DELIVERY], 0, sheet, delivered);
+        // A short sheet is the first reason.
+        let not_there = Answer::refused(if enough { 11 } else { 8 });
+        for discharge in [DELIVERY, Event::Confirm { award: 1 }, Event::Cash { short: 1 }] {
+            known(check, &[discharge], 0, sheet, not_there);
+        }
+        // The other calls have no sheet.
+        known(check, &[TRADE], 0, sheet, Answer::accepted(100));
+        known(check, &[Event::Close], 0, sheet, Answer::accepted(0));
+        known(check, &[Event::Attempt { short: 1 }], 0, sheet, Answer::refused(11));
+        known(check, &[], 0, sheet, Answer::accepted(0));
+    }
+}
+
+fn last_business_day(check: &mut Check) {
+    for (closes, refusal) in CLOSES.into_iter().zip([0, 26, 26, 26]) {
+        known(check, &[Event::Close], closes, 1_024, Answer::refused(refusal));
+        known(check, &[Event::Close, Event::Close], closes, 1_024, Answer::refused(26));
+        known(check, &[Event::Close, TRADE], closes, 1_024, Answer::accepted(100));
+    }
+    // Traded on day 9,997 it is due on the last day, traded on day 9,998 it never is.
+    let history = [TRADE, Event::Close, Event::Close, DELIVERY, Event::Close];
+    known(check, &history[..4], 9_996, 1_024, Answer::accepted(60));
+    known(check, &history, 9_996, 1_024, Answer::refused(26));
+    known(check, &history[..4], 9_997, 1_024, Answer::refused(17));
+    known(check, &history, 9_995, 1_024, Answer::accepted(0));
+}
+
+fn last_buy_in_and_cash_settlement(check: &mut Check) {
+    let price = Event::Price { security: 1, price: 1_100 };
+    let offer = Event::Offer { short: 1, offerer: 3, quantity: 60, price: 1_200 };
+    let [attempt, award] = [Event::Attempt { short: 1 }, Event::Award { short: 1 }];
+    let confirm = Event::Confirm { award: 1 };
+    let late = |days: usize, steps: &[Event]| [&[TRADE, price], &vec![Event::Close; days][..], steps].concat();
+    // Traded on day 9,992, the short is in its attempt window on the last day.
+    known(check, &late(7, &[attempt]), 9_991, 1_023, Answer::accepted(0));
+    known(check, &late(7, &[attempt, Event::Close]), 9_991, 1_024, Answer::refused(18));
+    known(check, &late(7, &[attempt, offer, award]), 9_991, 1_023, Answer::accepted(60));
+    known(check, &late(7, &[attempt, offer, award, confirm]), 9_991, 1_023, Answer::refused(8));
+    known(check, &late(7, &[attempt, offer, award, confirm]), 9_991, 1_024, Answer::accepted(60));
+    known(check, &late(7, &[attempt, award, Event::Close]), 9_991, 1_024, Answer::refused(26));
+    // Traded on day 9,989, it can be settled in cash.
+    known(check, &late(10, &[Event::Cash { short: 1 }]), 9_988, 1_024, Answer::accepted(100));
+    known(check, &late(10, &[Event::Cash { short: 1 }]), 9_988, 1_023, Answer::refused(8));
 }
 
 fn second(input: &[u8], closes: u32, sheet: u32) -> Answer {
