@@ -72,7 +72,11 @@ impl Event {
         let word = |at: usize| u32::from_le_bytes([body[at], body[at + 1], body[at + 2], body[at + 3]]);
         let named = u16::from_le_bytes([body[0], body[1]]);
         let (first, second) = (body[2], body[3]);
-        let (quantity, price) = (word(4), word(8));
+        Event::of(kind, named, first, second, word(4), word(8))
+    }
+
+    /// The event of a kind, with the fields that the kind uses. No other number than 1 to 9 is a kind.
+    pub fn of(kind: u8, named: u16, first: u8, second: u8, quantity: u32, price: u32) -> Option<Event> {
         Some(match kind {
             1 => Event::Trade { security: named, seller: first, buyer: second, quantity, price },
             2 => Event::Price { security: named, price },

@@ -5,7 +5,7 @@ use native.Mathlib.Nat.{add-zero}
 use native.Mathlib.Omega.{arith}
 use mathlib.Core.Path.{_≡_, refl, ap, ap₂, sym, _∙_}
 use mathlib.Core.List.{List, [], _∷_}
-use lib.ListN.{length, getD, take, drop, set, length-take, List·getD-eq-default}
+use lib.ListN.{length, getD, take, drop, set, List·getD-eq-default}
 use lib.Seq.{drop-drop, take-all}
 use lib.Dec.{leb}
 use borrow.Author.Tests.{leb-true, leb-false}
@@ -15,7 +15,7 @@ use Rattle.laws.specs.WordLaws.{word16-part, word32-part}
 use Rattle.laws.specs.Parts.{getD-part, padded, padded-more, padded-take}
 use Rattle.events.specs.declared.Event.{Event}
 use Rattle.events.specs.Body.{fields, fieldsAt, eventFrom, eventOf}
-use Rattle.events.specs.Passing.{length-paired}
+use Rattle.events.specs.Passing.{length-events}
 use Rattle.events.specs.File.{count, kindsIn, bodiesIn, paired, eventsOf}
 
 -- the fields of a body of 16 bytes, read where it stands
@@ -46,10 +46,7 @@ event-paired (kind ∷ kinds) bodies (suc i) =
 
 -- past the last event there is none
 pub event-past : (file : List ℕ) (n i : ℕ) → n ≡ count file → n ≤ i → Event.Close ≡ getD (eventsOf file) i Event.Close
-unfolding eventsOf
-event-past file n i e h =
-    sym (List·getD-eq-default (eventsOf file) Event.Close
-    (omega (arith, length-paired (kindsIn file (count file)) (bodiesIn file (count file)), length-take (count file) (drop 4 file))))
+event-past file n i e h = sym (List·getD-eq-default (eventsOf file) Event.Close (omega (arith, length-events file)))
 
 -- an event by the places of its kind byte and its body
 pub event-place : (file : List ℕ) (n i : ℕ) → n ≡ count file → i < n → eventFrom (getD file (4 + i) 0) (fieldsAt file (4 + n + 16 * i)) ≡ getD (eventsOf file) i Event.Close
@@ -69,7 +66,6 @@ stored-event es events e i p q h =
 
 -- all that the file says, or all that the array has places for, are read
 pub all-events : (file : List ℕ) (i : ℕ) → min (count file) 2048 ≤ i → padded Event.Close 2048 (take i (eventsOf file)) ≡ padded Event.Close 2048 (eventsOf file)
-unfolding eventsOf
 all-events file i h = go (ask (leb 2048 i))
   where
     go : Said (leb 2048 i) → padded Event.Close 2048 (take i (eventsOf file)) ≡ padded Event.Close 2048 (eventsOf file)
@@ -77,4 +73,4 @@ all-events file i h = go (ask (leb 2048 i))
     go (failed p) = ap (padded Event.Close 2048) (take-all i (eventsOf file) (short (leb-false 2048 i p)))
       where
         short : i < 2048 → length (eventsOf file) ≤ i
-        short k = omega (arith, length-paired (kindsIn file (count file)) (bodiesIn file (count file)), length-take (count file) (drop 4 file))
+        short k = omega (arith, length-events file)

@@ -1,12 +1,12 @@
 -- A file of bytes that passes is, byte for byte, the file that its events write.
-use Prim.Native.Nat.{ℕ, zero, suc, _+_, _*_, _≤_, _<_}
+use Prim.Native.Nat.{ℕ, zero, suc, _+_, _-_, _*_, _≤_, _<_, min}
 use native.Mathlib.Numerals.{towards-suc}
 use native.Mathlib.Omega.{arith}
 use mathlib.Core.Path.{_≡_, refl, ap, ap₂, sym, _∙_}
 use mathlib.Core.List.{List, [], _∷_, _++_, map, append-assoc}
 use mathlib.Core.Bool.{Bool, true, false, not, _&&_, _||_, true≢false}
 use lib.Dec.{eqb, leb, ltb}
-use lib.ListN.{length, getD, take, drop, length-drop, take-append-drop, length-map}
+use lib.ListN.{length, getD, take, drop, length-take, length-drop, take-append-drop, length-map}
 use lib.Seq.{drop-drop, length-take-le, take-all}
 use borrow.Author.Tests.{eqb-true, ltb-false, leb-true, not-false}
 use Rattle.laws.specs.Lists.{All, each, some, range, only}
@@ -167,15 +167,21 @@ passing file e =
 pub length-kinds : (file : List ℕ) → length file ≡ size (count file) → length (kindsIn file (count file)) ≡ count file
 length-kinds file e = length-take-le (count file) (drop 4 file) (omega (arith, length-drop 4 file))
 
--- a file of the right length has as many events as its count says
-pub length-paired : (kinds bodies : List ℕ) → length (paired kinds bodies) ≡ length kinds
+length-paired : (kinds bodies : List ℕ) → length (paired kinds bodies) ≡ length kinds
 length-paired [] bodies = refl
 length-paired (kind ∷ kinds) bodies = ap suc (length-paired kinds (drop 16 bodies))
 
-pub events-counted : (file : List ℕ) → length file ≡ size (count file) → length (eventsOf file) ≡ count file
+-- any file has as many events as its count says, and no more than it has bytes after the first four
+pub length-events : (file : List ℕ) → length (eventsOf file) ≡ min (count file) (length file - 4)
 unfolding eventsOf
-events-counted file e =
-    length-paired (kindsIn file (count file)) (bodiesIn file (count file)) ∙ length-kinds file e
+length-events file =
+    length-paired (kindsIn file (count file)) (bodiesIn file (count file))
+    ∙ length-take (count file) (drop 4 file)
+    ∙ ap (min (count file)) (length-drop 4 file)
+
+-- a file of the right length has as many events as its count says
+pub events-counted : (file : List ℕ) → length file ≡ size (count file) → length (eventsOf file) ≡ count file
+events-counted file e = omega (arith, length-events file)
 
 -- the bytes of the first four, the count and the width
 header-back : (file : List ℕ) → 4 ≤ length file → All (λ x. x < 256) file → word16At file 2 ≡ 16 → bytes16 (count file) ++ bytes16 16 ≡ take 4 file

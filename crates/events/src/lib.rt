@@ -210,6 +210,22 @@ pub fn event_count(file: &[u8]) -> u16
     word16_at(file, 0)
 }
 
+// How many events a file has: as many as its count says, and no more than it has kind bytes for.
+pub fn events_in(file: &[u8]) -> u16
+    ensures { λ r. ⌜ r ≡ length (eventsOf (now (file .entry))) ⌝ }
+{
+    let count = event_count(file);
+    let length = file.len();
+    if length < 4 {
+        return 0;
+    }
+    let kinds = length - 4;
+    if kinds < count as usize {
+        return kinds as u16;
+    }
+    count
+}
+
 // The event at an index, counted from 0; past the last event, a close. Of a file that is refused it reads what is
 // there, a missing byte as 0.
 pub fn event_at(file: &[u8], i: usize) -> Event
@@ -354,7 +370,7 @@ fn events_read(file: &[u8]) -> usize
     count
 }
 
-// The events of a file; the places past the last one hold a close. `event_count` says how many there are.
+// The events of a file; the places past the last one hold a close. `events_in` says how many there are.
 pub fn read_events(file: &[u8]) -> [Event; 2048]
     ensures { λ r. ⌜ r ≡ padded Event.Close 2048 (eventsOf (now (file .entry))) ⌝ }
 {

@@ -47,10 +47,10 @@ next-page file b entry exit played i r h p =
     record {
       long = played-length file played i entry exit r p ∙ h .long;
       valid = p .valid;
-      place = p .reached .1;
+      place = omega (arith, p .within, h .place);
       book =
           ap (λ (q : plain.Book). run q (callsOf (drop (r .next) (eventsOf file)))) (p .book)
-          ∙ run-rest (eventsOf file) i (r .next) (p .reached .0) (view played)
+          ∙ run-rest (eventsOf file) i (r .next) (p .reached) (view played)
           ∙ h .book;
     }
 

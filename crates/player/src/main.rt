@@ -3,7 +3,7 @@
 // of pages to standard output is outside the proofs.
 ghost use mathlib.Core.Path.{_≡_};
 ghost use lib.ListN.{length};
-ghost use Rattle.events.specs.File.{eventsOf, refusal};
+ghost use Rattle.events.specs.File.{eventsOf};
 ghost use Rattle.plain.specs.Histories.{run};
 ghost use Rattle.book.specs.View.{view, Valid};
 ghost use Rattle.replay.specs.Replay.{callsOf};
@@ -26,11 +26,11 @@ fn print_refusal(number: u8) {
 
 // Prints all events of a file, page by page. The book after them is answered.
 fn print_events(file: &[u8], book: Book) -> Book
-    requires { ⌜ (Valid book) × (refusal (now file) ≡ 0) ⌝ }
+    requires { ⌜ Valid book ⌝ }
     ensures { λ r. ⌜ (Valid r) × (view r ≡ run (view book) (callsOf (eventsOf (now (file .entry))))) ⌝ }
 {
     let mut page = blank_page();
-    let count = events::event_count(file) as usize;
+    let count = events::events_in(file) as usize;
     let mut played = book;
     let mut i: usize = 0;
     while i < count {

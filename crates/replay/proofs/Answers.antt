@@ -9,8 +9,7 @@ use Rattle.laws.specs.Refusals.{accepted-not}
 use Rattle.register.specs.Register.{registerRead}
 use Rattle.events.specs.declared.Event.{Event}
 use Rattle.events.specs.declared.Event.the-variants as event
-use Rattle.events.specs.File.{refusal, eventsOf, count}
-use Rattle.events.specs.Passing.{passing, events-counted}
+use Rattle.events.specs.File.{refusal, eventsOf}
 use Rattle.plain.specs.Book as plain
 use Rattle.plain.specs.Book.{new}
 use Rattle.plain.specs.declared.Piece.{Piece}
@@ -25,7 +24,7 @@ use Rattle.book.specs.View.{view, Valid, Returned, numberOf, quantityOf}
 use Rattle.book.proofs.Stepping.{other-sheet}
 use Rattle.book.specs.Opening.{OpenedOn}
 use Rattle.replay.specs.declared.Replayed.{Replayed}
-use Rattle.replay.specs.Replay.{replayRefusal, callsOf, ReadyFor, ReplayedFrom, deciding, passing-file, beforeLast, LastAnswered}
+use Rattle.replay.specs.Replay.{replayRefusal, callsOf, ReadyFor, ReplayedFrom, deciding, beforeLast, LastAnswered}
 
 abbrev answer : ℕ → Book → Replayed
 answer n b = record { number = n; book = b }
@@ -60,12 +59,6 @@ module _ (register file : List ℕ) (o : Replayed) (opened : ReadyFor register f
         book = same ∙ ap (λ (p : plain.Book). run p (callsOf (eventsOf file))) (opened .book);
         valid = λ z. valid;
       }
-
-  -- a file that passes has as many events as its count says
-  pub counted : o .number ≡ 0 → length (eventsOf file) ≡ count file
-  counted passes =
-      let p : refusal file ≡ 0 = passing-file register file (sym (opened .number) ∙ passes) in
-      events-counted file (passing file p .long)
 
 -- what the last event answers, or nothing where there is none
 module _ (b : plain.Book) (closes : ℕ) (events : List Event) (sheet : ℕ) where

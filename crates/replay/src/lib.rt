@@ -2,7 +2,7 @@
 ghost use Prim.Native.Nat.{_≤_};
 ghost use mathlib.Core.Path.{_≡_};
 ghost use lib.ListN.{length, take, replicate};
-ghost use Rattle.events.specs.File.{eventsOf, refusal};
+ghost use Rattle.events.specs.File.{eventsOf};
 ghost use Rattle.plain.specs.Calls.{call};
 ghost use Rattle.plain.specs.Refusals as plain;
 ghost use Rattle.plain.specs.Histories.{run, quantity};
@@ -65,7 +65,7 @@ pub fn replay(register: &[u8], file: &[u8]) -> Replayed
     if number != 0 {
         return Replayed { number, book };
     }
-    let count = events::event_count(file) as usize;
+    let count = events::events_in(file) as usize;
     let after = play(book, file, count);
     Replayed {
         number: 0,
@@ -106,10 +106,10 @@ fn outcome_on(book: Book, places: usize, e: Event) -> Outcome
 // What the last event of a file answers on a book that was closed so many times and then played the events before it, where
 // the last event's sheet has so many places. A file without events answers 0.
 pub fn last_answer(book: Book, closes: u32, file: &[u8], sheet: usize) -> Outcome
-    requires { ⌜ (Valid book) × (refusal (now file) ≡ 0) ⌝ }
+    requires { ⌜ Valid book ⌝ }
     ensures { λ r. ⌜ LastAnswered (view book) closes (eventsOf (now (file .entry))) sheet r ⌝ }
 {
-    let count = events::event_count(file) as usize;
+    let count = events::events_in(file) as usize;
     if count == 0 {
         return Outcome::Done(0);
     }

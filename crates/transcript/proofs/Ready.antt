@@ -1,14 +1,12 @@
 -- An input is taken apart where its register ends, and a book is opened on it.
 use Prim.Native.Nat.{ℕ, _-_, _≤_, min}
 use native.Mathlib.Omega.{arith}
-use mathlib.Core.Path.{_≡_, ap, sym, _∙_, subst}
+use mathlib.Core.Path.{_≡_, ap, _∙_, subst}
 use mathlib.Core.List.{List}
 use lib.ListN.{length, take, drop, length-drop}
 use lib.Seq.{take-all}
-use Rattle.events.specs.File.{refusal}
 use Rattle.replay.specs.declared.Replayed.{Replayed}
-use Rattle.replay.specs.Replay.{ReadyFor, passing-file}
-use Rattle.transcript.specs.declared.Started.{Started}
+use Rattle.replay.specs.Replay.{ReadyFor}
 use Rattle.transcript.specs.Parts.{take-min, drop-min}
 use Rattle.transcript.specs.Transcript.{registerLength, registerIn, fileIn, inputRefusal}
 use Rattle.transcript.specs.Playing.{StartedOn}
@@ -32,8 +30,3 @@ module _ (input : List ℕ) (end : ℕ) (is : end ≡ min (registerLength input)
   started r k =
       let same : ReadyFor (registerIn input) (fileIn input) r = subst (λ (l : List ℕ). ReadyFor (registerIn input) l r) back (subst (λ (l : List ℕ). ReadyFor l (take (length input - end) (drop end input)) r) front k) in
       record { number = same .number; file = is; book = same .book; valid = same .valid }
-
--- the part of the input from where its file begins passes, where the input does
-pub passing-part : (input : List ℕ) (r : Started) → StartedOn input r → r .number ≡ 0 → refusal (take (length input - r .file) (drop (r .file) input)) ≡ 0
-unfolding inputRefusal
-passing-part input r s e = ap refusal (back input (r .file) (s .file)) ∙ passing-file (registerIn input) (fileIn input) (sym (s .number) ∙ e)

@@ -1,7 +1,7 @@
 -- The lines of one event, and of some events one after the other.
-use Prim.Native.Nat.{ℕ, _+_, _-_, _*_, _≤_, _<_, min}
+use Prim.Native.Nat.{ℕ, _+_, _-_, _*_, _≤_, _<_, min, max}
 use native.Mathlib.Omega.{arith}
-use mathlib.Core.Path.{_≡_, refl, ap, sym, _∙_, subst}
+use mathlib.Core.Path.{_≡_, ap, sym, _∙_}
 use mathlib.Core.List.{List, [], _++_, append-nil}
 use mathlib.Core.Bool.{false}
 use lib.Dec.{ltb}
@@ -65,19 +65,19 @@ shown-entry b after e number o refusal quantity used entry exit h plainly n q ro
 -- what holds after the events from one place up to another
 pub record Reached (file : List ℕ) (b : Book) (from to : ℕ) (entry page : List ℕ) (played : Book) (used : ℕ) : Type 0 where
   pub low : from ≤ to
-  pub high : to ≤ length (eventsOf file)
+  pub high : to ≤ max from (length (eventsOf file))
   pub text : Put (eventsText (view b) (from + 1) (between file from to)) entry page used
   pub fits : used ≤ length entry
   pub book : view played ≡ run (view b) (callsOf (between file from to))
   pub valid : Valid played
 
-pub none-reached : (file : List ℕ) (b : Book) (from : ℕ) (page : List ℕ) → Valid b → from ≤ length (eventsOf file) → Reached file b from from page page b 0
+pub none-reached : (file : List ℕ) (b : Book) (from : ℕ) (page : List ℕ) → Valid b → Reached file b from from page page b 0
 unfolding eventsText run
-none-reached file b from page v h =
+none-reached file b from page v =
     let none : from - from ≡ 0 = omega arith in
     record {
       low = omega arith;
-      high = h;
+      high = omega arith;
       text = rw none (put-none page);
       fits = omega arith;
       book = rw none;
@@ -117,7 +117,7 @@ same-length file b from to entry page played used h = put-length _ entry page us
 pub played-on : (file : List ℕ) (b : Book) (from to : ℕ) (entry page : List ℕ) (played : Book) (used : ℕ) → Reached file b from to entry page played used
     → (from < length (eventsOf file) → BLOCK ≤ length entry → from < to) → PlayedOn file b from entry page (record { book = played; next = to; used = used })
 played-on file b from to entry page played used h more =
-    record { reached = (h .low, h .high); text = h .text; fits = h .fits; book = h .book; valid = h .valid; further = more }
+    record { reached = h .low; within = h .high; text = h .text; fits = h .fits; book = h .book; valid = h .valid; further = more }
 
 -- a page with room for an event has taken one, where it has no room for another
 pub some-taken : (file : List ℕ) (b : Book) (from to : ℕ) (entry page : List ℕ) (played : Book) (used : ℕ) → Reached file b from to entry page played used

@@ -1,5 +1,5 @@
 -- What the functions that write the transcript's blocks answer.
-use Prim.Native.Nat.{ℕ, suc, _+_, _-_, _*_, _≤_, _<_, min}
+use Prim.Native.Nat.{ℕ, _+_, _-_, _*_, _≤_, _<_, min, max}
 use mathlib.Core.Path.{_≡_}
 use mathlib.Core.List.{List}
 use lib.ListN.{length, take, drop}
@@ -46,7 +46,8 @@ between file from to = take (to - from) (drop from (eventsOf file))
 -- Events of a file, played from a place on, while the page has room for one more. How many they are is left free (`next`): at least one, where there
 -- is one and the page has room for it. The book is the one after them, and the page's first bytes are their text.
 pub record PlayedOn (file : List ℕ) (b : Book) (from : ℕ) (entry exit : List ℕ) (r : Played) : Type 0 where
-  pub reached : (from ≤ r .next) × (r .next ≤ length (eventsOf file))
+  pub reached : from ≤ r .next
+  pub within : r .next ≤ max from (length (eventsOf file))
   pub text : Put (eventsText (view b) (from + 1) (between file from (r .next))) entry exit (r .used)
   pub fits : r .used ≤ length entry
   pub book : view (r .book) ≡ run (view b) (callsOf (between file from (r .next)))

@@ -1,9 +1,8 @@
 -- The pages that are printed one after the other are the transcript.
-use Prim.Native.Nat.{ℕ, zero, suc, _+_, _-_, _*_, _≤_, _<_}
-use native.Mathlib.Nat.{add-zero}
+use Prim.Native.Nat.{ℕ, _+_, _-_, _≤_}
 use native.Mathlib.Omega.{arith}
-use mathlib.Core.Path.{_≡_, refl, ap, ap₂, sym, _∙_}
-use mathlib.Core.List.{List, [], _∷_, _++_, append-assoc}
+use mathlib.Core.Path.{_≡_, ap, ap₂, sym, _∙_}
+use mathlib.Core.List.{List, _++_, append-assoc}
 use lib.ListN.{length, take, drop, length-drop, drop-of-length-le}
 use lib.Seq.{length-take-le}
 use Rattle.laws.specs.Refusals.{accepted-zero, accepted-not}
@@ -49,20 +48,21 @@ module _ (es : List Event) (b : plain.Book) (i j : ℕ) (low : i ≤ j) (high : 
       (ap (λ (k : ℕ). eventsText b (i + 1) these ++ eventsText after k (drop j es)) (sym number) ∙ sym (text-append b (i + 1) these (drop j es)) ∙ ap (eventsText b (i + 1)) (sym (rest-split es i j low)))
       (ap endText (run-rest es i j low b))
 
-rest-printed : (file : List ℕ) {b : Book} {i : ℕ} {text : List ℕ} → Printed file b i text → text ≡ left (eventsOf file) (view b) i
-rest-printed file (finished {b = b} {i = i} h) = none-left (eventsOf file) (view b) i h
-rest-printed file (page {b = b} {i = i} {entry = entry} {exit = exit} {rest = rest} {r = r} p more) =
+rest-printed : (file : List ℕ) {b : Book} {i : ℕ} {text : List ℕ} → i ≤ length (eventsOf file) → Printed file b i text → text ≡ left (eventsOf file) (view b) i
+rest-printed file within (finished {b = b} {i = i} h) = none-left (eventsOf file) (view b) i h
+rest-printed file within (page {b = b} {i = i} {entry = entry} {exit = exit} {rest = rest} {r = r} p more) =
     let es = eventsOf file in
+    let high : r .next ≤ length es = omega (arith, p .within) in
     ap₂ (λ (t u : List ℕ). t ++ u)
     (put-front (eventsText (view b) (i + 1) (between file i (r .next))) entry exit (r .used) (p .text))
-    (rest-printed file more ∙ ap (λ (a : plain.Book). left es a (r .next)) (p .book))
-    ∙ some-left es (view b) i (r .next) (p .reached .0) (p .reached .1)
+    (rest-printed file high more ∙ ap (λ (a : plain.Book). left es a (r .next)) (p .book))
+    ∙ some-left es (view b) i (r .next) (p .reached) high
 
 -- an input that is not refused: what is printed is the transcript
 pub whole : (input : List ℕ) (r : Started) {text : List ℕ} → StartedOn input r → r .number ≡ 0 → Printed (fileIn input) (r .book) 0 text → text ≡ transcript input
 unfolding transcript
 whole input r s e p =
-    rest-printed (fileIn input) p
+    rest-printed (fileIn input) (omega arith) p
     ∙ ap (λ (b : plain.Book). left (eventsIn input) b 0) (s .book)
     ∙ sym (accepted-zero (inputRefusal input) (left (eventsIn input) (opened input) 0) (refusalLine (inputRefusal input)) (sym (s .number) ∙ e))
 

@@ -3,7 +3,6 @@ ghost use mathlib.Core.Path.{_≡_};
 ghost use mathlib.Core.Bool.{false};
 ghost use Prim.Native.Nat.{_≤_, min};
 ghost use lib.ListN.{length};
-ghost use Rattle.events.specs.File.{eventsOf, refusal};
 ghost use Rattle.book.specs.View.{view, Valid, numberOf, quantityOf};
 ghost use Rattle.book.specs.Stepping.{isDischarge};
 ghost use Rattle.report.specs.Pages.{Wrote};
@@ -126,10 +125,10 @@ fn play_event(page: &mut [u8], book: Book, e: Event, number: u32) -> Shown
 
 // Events of a file, from a place on, as long as the page has room for one more with all its pieces.
 pub fn play_events(page: &mut [u8], file: &[u8], book: Book, from: usize) -> Played
-    requires { ⌜ (Valid book) × (refusal (now file) ≡ 0) × (from ≤ length (eventsOf (now file))) ⌝ }
+    requires { ⌜ Valid book ⌝ }
     ensures { λ r. ⌜ PlayedOn (now (file .entry)) book from (now (page .entry)) (now (page .exit)) r ⌝ }
 {
-    let count = events::event_count(file) as usize;
+    let count = events::events_in(file) as usize;
     let room = page.len();
     let mut played = book;
     let mut next = from;

@@ -9,20 +9,10 @@ use crate::windows::Step;
 
 /// An event of the kind, whose fields have any value.
 pub fn random_event(random: &mut Random, kind: u8) -> Event {
-    let number = random.word() as u16;
+    let named = random.word() as u16;
     let [first, second] = [(); 2].map(|_| random.byte());
     let [quantity, price] = [(); 2].map(|_| random.sized_word() as u32);
-    match kind {
-        1 => Event::Trade { security: number, seller: first, buyer: second, quantity, price },
-        2 => Event::Price { security: number, price },
-        3 => Event::Delivery { short: number, quantity },
-        4 => Event::Attempt { short: number },
-        5 => Event::Offer { short: number, offerer: first, quantity, price },
-        6 => Event::Award { short: number },
-        7 => Event::Confirm { award: number },
-        8 => Event::Cash { short: number },
-        _ => Event::Close,
-    }
+    Event::of(kind, named, first, second, quantity, price).expect("a kind from 1 to 9")
 }
 
 impl History<'_> {

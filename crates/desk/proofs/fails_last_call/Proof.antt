@@ -3,7 +3,6 @@ use mathlib.Core.Path.{_≡_, sym, ap, _∙_}
 use denote.Ref.{now}
 use Rattle.plain.specs.declared.Outcome.{Outcome}
 use Rattle.book.specs.View.{numberOf, quantityOf}
-use Rattle.transcript.proofs.Ready.{passing-part}
 use Rattle.desk.specs.Answers as answers
 use Rattle.desk.specs.Last.{lastNumber, lastQuantity}
 use Rattle.desk.proofs.Packing.{refused-input, last-packed}
@@ -33,10 +32,7 @@ part-last-answer-end : tie.Need-part-last-answer-end
 part-last-answer-end c = search needs
 
 last-answer-requires : tie.Need-last-answer-requires
-last-answer-requires c κs =
-    let passes = c .before .before .if1 .left in
-    let s = c .before .before .before in
-    (s .start .ensures .valid passes, passing-part (now (s .before .before .args .input)) (s .start .result) (s .start .ensures) passes)
+last-answer-requires c κs = c .before .before .before .start .ensures .valid (c .before .before .if1 .left)
 
 -- an outcome's number and quantity, packed, are those of the definition
 answered : (c : tie.After-last-answer) → let a = c .before .before .before .before .before .before .args in

@@ -1,11 +1,7 @@
 -- `player::print_events` meets its contract. The loop's invariant: the events that are left decide the last book.
 use Prim.Native.Nat.{_-_}
 use native.Mathlib.Omega.{arith}
-use mathlib.Core.Path.{_≡_, refl, sym, _∙_}
-use lib.ListN.{length}
-use denote.Ref.{now}
-use Rattle.events.specs.File.{eventsOf}
-use Rattle.events.specs.Passing.{passing, events-counted}
+use mathlib.Core.Path.{refl, sym}
 use Rattle.player.proofs.Pages.{Between, played-among, next-page, all-played}
 use Rattle.player.proofs.print_events.Statement.{statement}
 use Rattle.player.proofs.print_events.Tie as tie
@@ -19,8 +15,8 @@ abbrev μ-loop : tie.MeasureT-loop
 blank-page-requires : tie.Need-blank-page-requires Inv-loop μ-loop
 blank-page-requires c κs = tt
 
-event-count-requires : tie.Need-event-count-requires Inv-loop μ-loop
-event-count-requires c κs = tt
+events-in-requires : tie.Need-events-in-requires Inv-loop μ-loop
+events-in-requires c κs = tt
 
 cast-count : tie.Need-cast-count Inv-loop μ-loop
 cast-count c = omega arith
@@ -29,23 +25,13 @@ loop-holds : tie.Need-loop-holds Inv-loop μ-loop
 loop-holds c =
     let b = c .before in
     let start = b .before .before in
-    record { long = b .blank-page .ensures; valid = start .pre .0; place = omega arith; book = refl }
-
--- the file passes, so that its count is the number of its events
-counted : (c : tie.After-event-count Inv-loop μ-loop) → length (eventsOf (now (c .before .before .before .args .file))) ≡ c .event-count .result
-counted c =
-    let start = c .before .before .before in
-    let file = now (start .args .file) in
-    events-counted file (passing file (start .pre .1) .long) ∙ sym (c .event-count .ensures)
+    record { long = b .blank-page .ensures; valid = start .pre; place = omega arith; book = refl }
 
 slice-aggregate-play-events : tie.Need-slice-aggregate-play-events Inv-loop μ-loop
 slice-aggregate-play-events c = sym (c .before .before .loop .inv .long)
 
 play-events-requires : tie.Need-play-events-requires Inv-loop μ-loop
-play-events-requires c κs =
-    let k = c .before .before in
-    let start = k .before .before .before .before in
-    (k .loop .inv .valid, start .pre .1, k .loop .inv .place)
+play-events-requires c κs = c .before .before .loop .inv .valid
 
 array-share-prefix-page : tie.Need-array-share-prefix-page Inv-loop μ-loop
 array-share-prefix-page c = played-among _ _ _ _ _ _ (c .before .play-events .ensures) .0
@@ -61,7 +47,7 @@ loop-less c =
     let p = c .before .before .before .before in
     let n = p .before .before in
     let within = n .loop-test .taken in
-    omega (arith, within, p .play-events .ensures .further (omega (arith, counted (n .before .before), within)) (omega (arith, n .before .loop .inv .long)))
+    omega (arith, within, p .play-events .ensures .further (omega (arith, n .before .before .events-in .ensures, within)) (omega (arith, n .before .loop .inv .long)))
 
 loop-again : tie.Need-loop-again Inv-loop μ-loop
 loop-again c =
@@ -71,7 +57,7 @@ loop-again c =
 returns : tie.Need-returns Inv-loop μ-loop
 returns c =
     let k = c .before in
-    (k .loop .inv .valid, all-played _ _ _ _ _ (k .loop .inv) (omega (arith, counted (k .before), c .loop-test .left)))
+    (k .loop .inv .valid, all-played _ _ _ _ _ (k .loop .inv) (omega (arith, k .before .events-in .ensures, c .loop-test .left)))
 
 pub print-events-spec : {M : Type 1} → statement M
 print-events-spec =
@@ -80,7 +66,7 @@ print-events-spec =
     Inv-loop
     μ-loop
     blank-page-requires
-    event-count-requires
+    events-in-requires
     cast-count
     loop-holds
     slice-aggregate-play-events

@@ -1,6 +1,4 @@
 -- `player::print_transcript` meets its contract.
-use denote.Ref.{now}
-use Rattle.transcript.proofs.Ready.{passing-part}
 use borrow.Author.Needs.{needs}
 use Rattle.player.proofs.print_transcript.Statement.{statement}
 use Rattle.player.proofs.print_transcript.Tie as tie
@@ -24,10 +22,7 @@ part-print-events-end : tie.Need-part-print-events-end
 part-print-events-end c = search needs
 
 print-events-requires : tie.Need-print-events-requires
-print-events-requires c κs =
-    let passes = c .before .before .if1 .left in
-    let s = c .before .before .before in
-    (s .start .ensures .valid passes, passing-part (now (s .before .before .args .input)) (s .start .result) (s .start .ensures) passes)
+print-events-requires c κs = c .before .before .before .start .ensures .valid (c .before .before .if1 .left)
 
 print-end-requires : tie.Need-print-end-requires
 print-end-requires c κs = search needs

@@ -2,13 +2,10 @@
 use Prim.Native.Nat.{ℕ, _-_, _<_}
 use native.Mathlib.Omega.{arith}
 use mathlib.Core.Path.{_≡_, _∙_, ap}
-use mathlib.Core.List.{List}
 use lib.ListN.{length, getD, take, replicate}
 use denote.Ref.{now}
-use Rattle.events.specs.declared.Event.{Event}
 use Rattle.events.specs.declared.Event.the-variants as event
-use Rattle.events.specs.File.{eventsOf, count}
-use Rattle.events.specs.Passing.{passing, events-counted}
+use Rattle.events.specs.File.{eventsOf}
 use Rattle.plain.specs.Book as plain
 use Rattle.plain.specs.Histories.{run}
 use Rattle.book.specs.View.{view}
@@ -18,8 +15,8 @@ use borrow.Author.Needs.{needs}
 use Rattle.replay.proofs.last_answer.Statement.{statement}
 use Rattle.replay.proofs.last_answer.Tie as tie
 
-event-count-requires : tie.Need-event-count-requires
-event-count-requires c κs = search needs
+events-in-requires : tie.Need-events-in-requires
+events-in-requires c κs = search needs
 
 cast-count : tie.Need-cast-count
 cast-count c = search needs
@@ -29,8 +26,7 @@ returns c =
     let k = c .before in
     let start = k .before .before in
     let file = now (start .args .file) in
-    let long = events-counted file (passing file (start .pre .1) .long) in
-    last-none (view (start .args .book)) (start .args .closes) (eventsOf file) (start .args .sheet) (omega (arith, long, k .event-count .ensures, c .if1 .taken))
+    last-none (view (start .args .book)) (start .args .closes) (eventsOf file) (start .args .sheet) (omega (arith, k .events-in .ensures, c .if1 .taken))
 
 closed-requires : tie.Need-closed-requires
 closed-requires c κs = search needs
@@ -43,8 +39,7 @@ play-requires c κs =
     let k = c .before .before in
     let start = k .before .before in
     let file = now (start .args .file) in
-    let long = events-counted file (passing file (start .pre .1) .long) in
-    (c .closed .ensures .1, omega (arith, long, k .event-count .ensures))
+    (c .closed .ensures .1, omega (arith, k .events-in .ensures))
 
 sub-event-at : tie.Need-sub-event-at
 sub-event-at c = search needs
@@ -63,11 +58,10 @@ returns-2 c =
     let start = k .before .before in
     let file = now (start .args .file) in
     let events = eventsOf file in
-    let long = events-counted file (passing file (start .pre .1) .long) in
-    let last : k .event-count .result - 1 ≡ length events - 1 = omega (arith, long, k .event-count .ensures) in
-    let some : 0 < length events = omega (arith, long, k .event-count .ensures, p .before .before .if1 .left) in
+    let last : k .events-in .result - 1 ≡ length events - 1 = omega (arith, k .events-in .ensures) in
+    let some : 0 < length events = omega (arith, k .events-in .ensures, p .before .before .if1 .left) in
     last-some (view (start .args .book)) (start .args .closes) events (start .args .sheet) some (c .outcome-on .result) (view (p .play .result)) (e .event-at .result)
-    (p .play .ensures .0 ∙ ap (λ (b : plain.Book). run b (callsOf (take (k .event-count .result - 1) events))) (p .before .closed .ensures .0) ∙ ap (λ (n : ℕ). run (run (view (start .args .book)) (replicate (start .args .closes) closing)) (callsOf (take n events))) last)
+    (p .play .ensures .0 ∙ ap (λ (b : plain.Book). run b (callsOf (take (k .events-in .result - 1) events))) (p .before .closed .ensures .0) ∙ ap (λ (n : ℕ). run (run (view (start .args .book)) (replicate (start .args .closes) closing)) (callsOf (take n events))) last)
     (e .event-at .ensures ∙ ap (λ (n : ℕ). getD events n event.Close) last)
     (c .outcome-on .ensures .0)
     (c .outcome-on .ensures .1)
@@ -76,7 +70,7 @@ pub last-answer-spec : {M : Type 1} → statement M
 last-answer-spec =
     tie.close
     (tie.spec
-    event-count-requires
+    events-in-requires
     cast-count
     returns
     closed-requires

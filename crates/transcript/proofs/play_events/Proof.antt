@@ -1,11 +1,8 @@
 -- `transcript::play_events` meets its contract. The loop's invariant: the page has the text of the events from the first one up to the next.
 use Prim.Native.Nat.{_-_}
 use native.Mathlib.Omega.{arith}
-use mathlib.Core.Path.{_≡_, refl, sym, _∙_}
-use lib.ListN.{length}
+use mathlib.Core.Path.{refl}
 use denote.Ref.{now}
-use Rattle.events.specs.File.{eventsOf}
-use Rattle.events.specs.Passing.{passing, events-counted}
 use Rattle.transcript.proofs.Showing.{Reached, none-reached, one-reached, room-left, played-on, some-taken}
 use Rattle.transcript.proofs.Showing as showing
 use Rattle.transcript.proofs.play_events.Statement.{statement}
@@ -17,8 +14,8 @@ Inv-loop page₀ file from count room played₀ next₀ used₀ page played next
 abbrev μ-loop : tie.MeasureT-loop
 μ-loop page₀ file from count room played₀ next₀ used₀ page played next used = count - next
 
-event-count-requires : tie.Need-event-count-requires Inv-loop μ-loop
-event-count-requires c κs = tt
+events-in-requires : tie.Need-events-in-requires Inv-loop μ-loop
+events-in-requires c κs = tt
 
 cast-count : tie.Need-cast-count Inv-loop μ-loop
 cast-count c = omega arith
@@ -26,14 +23,7 @@ cast-count c = omega arith
 loop-holds : tie.Need-loop-holds Inv-loop μ-loop
 loop-holds c =
     let start = c .before .before .before in
-    none-reached (now (start .args .file)) (start .args .book) (start .args .from) (now (start .args .page)) (start .pre .0) (start .pre .2)
-
--- the file passes, so that its count is the number of its events
-counted : (c : tie.After-event-count Inv-loop μ-loop) → length (eventsOf (now (c .before .before .before .args .file))) ≡ c .event-count .result
-counted c =
-    let start = c .before .before .before in
-    let file = now (start .args .file) in
-    events-counted file (passing file (start .pre .1) .long) ∙ sym (c .event-count .ensures)
+    none-reached (now (start .args .file)) (start .args .book) (start .args .from) (now (start .args .page)) (start .pre)
 
 add-if1 : tie.Need-add-if1 Inv-loop μ-loop
 add-if1 c = omega (arith, c .before .loop .inv .fits)
@@ -87,7 +77,7 @@ loop-again c =
     let n = e .before .before in
     let k = n .before .loop in
     one-reached _ _ _ (k .next) _ _ _ _ (e .event-at .result) _ (k .used) (p .play-event .result) (k .inv)
-    (omega (arith, counted (n .before .before), n .loop-test .taken)) (e .event-at .ensures) refl (e .before .if1 .left) (p .play-event .ensures)
+    (omega (arith, n .before .before .events-in .ensures, n .loop-test .taken)) (e .event-at .ensures) refl (e .before .if1 .left) (p .play-event .ensures)
 
 same-length-2 : tie.Need-same-length-2 Inv-loop μ-loop
 same-length-2 c = showing.same-length _ _ _ _ _ _ _ _ (c .before .loop .inv)
@@ -95,7 +85,7 @@ same-length-2 c = showing.same-length _ _ _ _ _ _ _ _ (c .before .loop .inv)
 returns-2 : tie.Need-returns-2 Inv-loop μ-loop
 returns-2 c =
     let h = c .before .loop .inv in
-    played-on _ _ _ _ _ _ _ _ h (λ there room. omega (arith, counted (c .before .before), c .loop-test .left))
+    played-on _ _ _ _ _ _ _ _ h (λ there room. omega (arith, c .before .before .events-in .ensures, c .loop-test .left))
 
 pub play-events-spec : {M : Type 1} → statement M
 play-events-spec =
@@ -103,7 +93,7 @@ play-events-spec =
     (tie.spec
     Inv-loop
     μ-loop
-    event-count-requires
+    events-in-requires
     cast-count
     loop-holds
     add-if1
