@@ -2,11 +2,10 @@
 use Prim.Native.Nat.{ℕ, suc, _-_, _≤_, _<_}
 use native.Mathlib.Omega.{arith}
 use mathlib.Core.Path.{_≡_, refl, ap, sym, _∙_}
-use mathlib.Core.Bool.{true, false, not, _&&_}
+use mathlib.Core.Bool.{true, false, not}
 use mathlib.Core.List.{List}
 use lib.ListN.{length, take, getD}
 use lib.Seq.{length-take-le, getD-take}
-use lib.Dec.{leb}
 use lib.IntN.{pos, negℤ, subℕ}
 use borrow.Author.Tests.{lt-ltb, le-ltb}
 use Rattle.laws.specs.Asked.{within-low, within-high, within}
@@ -16,8 +15,7 @@ use Rattle.book.specs.Reading.{notThere, noAccount}
 
 module _ {A : Type 0} (none : A) (items : List A) (count n : ℕ) (fits : count ≤ length items) where
   there-is : there (take count items) n ≡ within 1 count n
-  unfolding within
-  there-is = ap (λ (k : ℕ). leb 1 n && leb n k) (length-take-le count items fits)
+  there-is = ap (λ (k : ℕ). within 1 k n) (length-take-le count items fits)
 
   pub missing : within 1 count n ≡ false
       → (11 ≡ notThere (take count items) n) × (none ≡ accepted (notThere (take count items) n) (nth none (take count items) n) none)

@@ -89,13 +89,13 @@ auctionRefusal fails ceiling offers price = first (auctionReasons fails ceiling 
 -- these are the plain book's
 module _ (b : plain.Book) (sheet : ℕ) where
   pub award-refusal-is : (a : Award) → refusal b (call (event.Award a) sheet) ≡ awardRefusal (length (b .positions)) (b .auction .position) (a .position)
-  unfolding refusal reasons within awardRefusal awardReasons
+  unfolding refusal reasons awardRefusal awardReasons
   award-refusal-is a = refl
 
   pub attempt-refusal-is : (a : Attempt) → let p = plain.positionOf b (a .position) in refusal b (call (event.Attempt a) sheet) ≡ first ((not (within 1 (length (b .positions)) (a .position)) ⇒ 11) ∷ attemptReasons p (stepToday b p) (b .auction .position) (plain.latestOf b (p .security)) (length (b .marks)) (some (λ n. eqb n (a .position)) (b .marks)))
-  unfolding refusal reasons within attemptReasons
+  unfolding refusal reasons attemptReasons
   attempt-refusal-is a = refl
 
   pub offer-refusal-is : (o : Offer) → refusal b (call (event.Offer o) sheet) ≡ first (offerReasons (length (b .positions)) (b .auction .position) o ++ auctionReasons (failing (b .day) (b .positions) (plain.positionOf b (o .position) .security) (o .offerer)) (b .auction .ceiling) (length (b .auction .offers)) (o .price))
-  unfolding refusal reasons within offerReasons auctionReasons
+  unfolding refusal reasons offerReasons auctionReasons
   offer-refusal-is o = refl

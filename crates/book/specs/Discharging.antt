@@ -73,15 +73,15 @@ cashRefusal p today latest = first (cashReasons p today latest)
 -- these are the plain book's
 module _ (b : plain.Book) (sheet : ℕ) where
   pub delivery-refusal-is : (d : Delivery) → refusal b (call (event.Delivery d) sheet) ≡ first (lookupReasons sheet (length (b .positions)) (d .position) ++ deliveryReasons (plain.positionOf b (d .position)) (b .day) (b .auction .position) (unconfirmed (d .position) (b .awards)) d)
-  unfolding refusal reasons free within lookupReasons deliveryReasons
+  unfolding refusal reasons free lookupReasons deliveryReasons
   delivery-refusal-is d = refl
 
   pub confirm-refusal-is : (c : Confirm) → refusal b (call (event.Confirm c) sheet) ≡ first (lookupReasons sheet (length (b .awards)) (c .award) ++ confirmReasons (plain.awardOf b (c .award)))
-  unfolding refusal reasons within lookupReasons confirmReasons
+  unfolding refusal reasons lookupReasons confirmReasons
   confirm-refusal-is c = refl
 
   pub cash-refusal-is : (c : Cash) → let p = plain.positionOf b (c .position) in refusal b (call (event.Cash c) sheet) ≡ first (lookupReasons sheet (length (b .positions)) (c .position) ++ cashReasons p (stepToday b p) (plain.latestOf b (p .security)))
-  unfolding refusal reasons within lookupReasons cashReasons
+  unfolding refusal reasons lookupReasons cashReasons
   cash-refusal-is c = refl
 
 -- a discharge that nothing turns down, whatever sheet of 1,024 places or more is lent

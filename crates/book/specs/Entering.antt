@@ -37,9 +37,9 @@ priceRefusal securities p = first (priceReasons securities p)
 
 -- these are the plain book's
 pub trade-refusal-is : (b : plain.Book) (t : Trade) (sheet : ℕ) → refusal b (call (event.Trade t) sheet) ≡ tradeRefusal (b .register .count) (b .past + length (b .trades)) t
-unfolding refusal reasons within tradeRefusal tradeReasons
+unfolding refusal reasons tradeRefusal tradeReasons
 trade-refusal-is b t sheet = refl
 
 pub price-refusal-is : (b : plain.Book) (p : Price) (sheet : ℕ) → refusal b (call (event.Price p) sheet) ≡ priceRefusal (b .register .count) p
-unfolding refusal reasons within priceRefusal priceReasons
+unfolding refusal reasons priceRefusal priceReasons
 price-refusal-is b p sheet = refl

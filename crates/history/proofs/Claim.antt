@@ -24,7 +24,7 @@ use Rattle.plain.specs.Charging.{creditOf, debitOf}
 use Rattle.plain.specs.Calls.{Call, shortOf}
 use Rattle.plain.specs.Refusals.{refusal}
 use Rattle.plain.specs.Histories.{eventOf, next, pieces, quantity, run, handed, allCharges, acceptedEvents, formed, balance}
-use Rattle.plain.proofs.Accepted.{Within, within, next-keeps}
+use Rattle.plain.proofs.Accepted.{Within, both-bounds, next-keeps}
 use Rattle.plain.proofs.Invariants.{DueLong}
 use Rattle.plain.proofs.Sound.{Sound, done-sound, new-sound}
 use Rattle.plain.proofs.Discharges.{Discharge, discharge}
@@ -139,7 +139,7 @@ all-filled (step k rs) = one (filled k) (all-filled rs)
 read-there : (b : plain.Book) (n : ℕ) (a : PositionAnswer) → PositionRead b n a → positionNumber a ≡ 0 → Within 1 (length (b .positions)) n
 read-there b n a r e =
     let reasons = (not (plain.there (b .positions) n) ⇒ 11) ∷ [] in
-    within 1 (length (b .positions)) n (not-false _ (none-applies reasons refl (sym (r .number) ∙ e) .0))
+    both-bounds 1 (length (b .positions)) n (not-false _ (none-applies reasons refl (sym (r .number) ∙ e) .0))
 
 read-found : (b : plain.Book) (n : ℕ) (a : PositionAnswer) → PositionRead b n a → positionNumber a ≡ 0 → positionFound a ≡ positionOf b n
 read-found b n a r e = r .position ∙ accepted-zero (notThere (b .positions) n) (positionOf b n) noPosition (sym (r .number) ∙ e)

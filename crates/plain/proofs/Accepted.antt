@@ -7,9 +7,9 @@ use mathlib.Core.List.{List, [], _∷_, _++_}
 use mathlib.Core.Bool.{Bool, true, false, not, _&&_, _||_}
 use lib.ListN.{length}
 use lib.Dec.{ltb, leb, eqb}
-use borrow.Author.Tests.{ltb-true, ltb-false, leb-true, leb-false, eqb-true, eqb-false, not-false}
+use borrow.Author.Tests.{ltb-true, ltb-false, leb-false, eqb-true, eqb-false, not-false}
 use Rattle.laws.specs.Lists.{some}
-use Rattle.laws.specs.Asked.{and-left, and-right, or-left, or-right}
+use Rattle.laws.specs.Asked.{and-left, and-right, or-left, or-right, within, within-low, within-high}
 use Rattle.laws.specs.Refusals.{accepted, none-applies}
 use Rattle.rules.specs.Windows.{stepKind}
 use Rattle.rules.specs.declared.Step.the-variants as step
@@ -36,12 +36,8 @@ pub record Within (low high n : ℕ) : Type 0 where
   pub above : low ≤ n
   pub below : n ≤ high
 
-pub within : (low high n : ℕ) → leb low n && leb n high ≡ true → Within low high n
-within low high n e =
-    record {
-      above = leb-true low n (and-left (leb low n) (leb n high) e);
-      below = leb-true n high (and-right (leb low n) (leb n high) e);
-    }
+pub both-bounds : (low high n : ℕ) → within low high n ≡ true → Within low high n
+both-bounds low high n e = record { above = within-low low high n e; below = within-high low high n e }
 
 module _ (b : Book) where
   pub record TradeTaken (t : Trade) : Type 0 where
@@ -114,11 +110,11 @@ module _ (b : Book) where
       let h = none-applies (reasons b (call (event.Trade t) sheet)) refl e in
       let members = not-false _ (h .0) in
       record {
-        seller = within 1 63 (t .seller) (and-left (isMember (t .seller)) (isMember (t .buyer)) members);
-        buyer = within 1 63 (t .buyer) (and-right (isMember (t .seller)) (isMember (t .buyer)) members);
-        security = within 1 (b .register .count) (t .security) (not-false _ (h .1 .0));
-        quantity = within 1 1000000 (t .quantity) (not-false _ (h .1 .1 .0));
-        price = within 1 10000000 (t .price) (not-false _ (h .1 .1 .1 .0));
+        seller = both-bounds 1 63 (t .seller) (and-left (isMember (t .seller)) (isMember (t .buyer)) members);
+        buyer = both-bounds 1 63 (t .buyer) (and-right (isMember (t .seller)) (isMember (t .buyer)) members);
+        security = both-bounds 1 (b .register .count) (t .security) (not-false _ (h .1 .0));
+        quantity = both-bounds 1 1000000 (t .quantity) (not-false _ (h .1 .1 .0));
+        price = both-bounds 1 10000000 (t .price) (not-false _ (h .1 .1 .1 .0));
         others = eqb-false _ _ (h .1 .1 .1 .1 .0);
         room = leb-false _ _ (h .1 .1 .1 .1 .1 .0);
       }
@@ -128,8 +124,8 @@ module _ (b : Book) where
   price-taken p sheet e =
       let h = none-applies (reasons b (call (event.Price p) sheet)) refl e in
       record {
-        security = within 1 (b .register .count) (p .security) (not-false _ (h .0));
-        price = within 1 10000000 (p .price) (not-false _ (h .1 .0));
+        security = both-bounds 1 (b .register .count) (p .security) (not-false _ (h .0));
+        price = both-bounds 1 10000000 (p .price) (not-false _ (h .1 .0));
       }
 
   pub delivery-taken : (d : Delivery) (sheet : ℕ) → refusal b (call (event.Delivery d) sheet) ≡ 0 → DeliveryTaken d
@@ -137,7 +133,7 @@ module _ (b : Book) where
   delivery-taken d sheet e =
       let h = none-applies (reasons b (call (event.Delivery d) sheet)) refl e in
       record {
-        held = within 1 (length (b .positions)) (d .position) (not-false _ (h .1 .0));
+        held = both-bounds 1 (length (b .positions)) (d .position) (not-false _ (h .1 .0));
         some-units = eqb-false _ _ (h .1 .1 .0);
         short = not-false _ (h .1 .1 .1 .0);
         is-due = not-false _ (h .1 .1 .1 .1 .0);
@@ -152,7 +148,7 @@ module _ (b : Book) where
       let marked = h .1 .1 .1 .1 .1 .0 in
       let at-zero : b .auction .position ≤ 0 = ltb-false _ _ (h .1 .1 .1 .0) in
       record {
-        held = within 1 (length (b .positions)) (a .position) (not-false _ (h .0));
+        held = both-bounds 1 (length (b .positions)) (a .position) (not-false _ (h .0));
         short = not-false _ (h .1 .0);
         window = eqb-true _ _ (not-false _ (h .1 .1 .0));
         quiet = omega arith;
@@ -167,10 +163,10 @@ module _ (b : Book) where
   offer-taken o sheet e =
       let h = none-applies (reasons b (call (event.Offer o) sheet)) refl e in
       record {
-        offerer = within 1 63 (o .offerer) (not-false _ (h .0));
-        held = within 1 (length (b .positions)) (o .position) (not-false _ (h .1 .0));
-        quantity = within 1 1000000 (o .quantity) (not-false _ (h .1 .1 .0));
-        price = within 1 10000000 (o .price) (not-false _ (h .1 .1 .1 .0));
+        offerer = both-bounds 1 63 (o .offerer) (not-false _ (h .0));
+        held = both-bounds 1 (length (b .positions)) (o .position) (not-false _ (h .1 .0));
+        quantity = both-bounds 1 1000000 (o .quantity) (not-false _ (h .1 .1 .0));
+        price = both-bounds 1 10000000 (o .price) (not-false _ (h .1 .1 .1 .0));
         running = not-false _ (h .1 .1 .1 .1 .0);
         fulfilling = h .1 .1 .1 .1 .1 .0;
         cheap = ltb-false _ _ (h .1 .1 .1 .1 .1 .1 .0);
@@ -182,7 +178,7 @@ module _ (b : Book) where
   award-taken a sheet e =
       let h = none-applies (reasons b (call (event.Award a) sheet)) refl e in
       record {
-        held = within 1 (length (b .positions)) (a .position) (not-false _ (h .0));
+        held = both-bounds 1 (length (b .positions)) (a .position) (not-false _ (h .0));
         running = not-false _ (h .1 .0);
       }
 
@@ -190,14 +186,14 @@ module _ (b : Book) where
   unfolding unfolding-all
   confirm-taken c sheet e =
       let h = none-applies (reasons b (call (event.Confirm c) sheet)) refl e in
-      record { held = within 1 (length (b .awards)) (c .award) (not-false _ (h .1 .0)); unconfirmed = h .1 .1 .0 }
+      record { held = both-bounds 1 (length (b .awards)) (c .award) (not-false _ (h .1 .0)); unconfirmed = h .1 .1 .0 }
 
   pub cash-taken : (c : Cash) (sheet : ℕ) → refusal b (call (event.Cash c) sheet) ≡ 0 → CashTaken c
   unfolding unfolding-all
   cash-taken c sheet e =
       let h = none-applies (reasons b (call (event.Cash c) sheet)) refl e in
       record {
-        held = within 1 (length (b .positions)) (c .position) (not-false _ (h .1 .0));
+        held = both-bounds 1 (length (b .positions)) (c .position) (not-false _ (h .1 .0));
         short = not-false _ (h .1 .1 .0);
         window = eqb-true _ _ (not-false _ (h .1 .1 .1 .0));
         priced = eqb-false _ _ (h .1 .1 .1 .1 .0);

@@ -1,9 +1,9 @@
 -- Document 01, 'The plain book': what the plain book keeps, and the book as it opens.
 use Prim.Native.Nat.{ℕ, _-_, _+_, _≤_}
 use mathlib.Core.List.{List, [], _∷_}
-use mathlib.Core.Bool.{Bool, true, false, _&&_}
+use mathlib.Core.Bool.{Bool, true, false}
 use lib.ListN.{length, getD, replicate}
-use lib.Dec.{leb}
+use Rattle.laws.specs.Asked.{within}
 use Rattle.register.specs.declared.Register.{Register}
 use Rattle.events.specs.declared.Trade.{Trade}
 use Rattle.events.specs.declared.Offer.{Offer}
@@ -78,7 +78,7 @@ nth none list n = getD list (n - 1) none
 
 -- number n of a list is there
 abbrev pub there : {A : Type 0} → List A → ℕ → Bool
-there list n = leb 1 n && leb n (length list)
+there list n = within 1 (length list) n
 
 abbrev pub positionOf : Book → ℕ → Position
 positionOf b n = nth noPosition (b .positions) n

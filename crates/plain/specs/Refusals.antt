@@ -4,6 +4,7 @@ use mathlib.Core.List.{List, [], _∷_}
 use mathlib.Core.Bool.{Bool, true, false, not, _&&_, _||_}
 use lib.ListN.{length}
 use lib.Dec.{ltb, leb, eqb}
+use Rattle.laws.specs.Asked.{within}
 use Rattle.laws.specs.Lists.{some}
 use Rattle.laws.specs.Refusals.{Reason, _⇒_, first}
 use Rattle.rules.specs.Windows.{stepOn, stepKind}
@@ -23,19 +24,19 @@ smallSheet sheet = ltb sheet 1024 ⇒ 8
 
 -- 9. "A member is not 1 to 63."
 abbrev pub isMember : ℕ → Bool
-isMember m = leb 1 m && leb m 63
+isMember m = within 1 63 m
 
 -- 10. "The security is not registered."
 abbrev pub isSecurity : Book → ℕ → Bool
-isSecurity b s = leb 1 s && leb s (b .register .count)
+isSecurity b s = within 1 (b .register .count) s
 
 -- 12. "The quantity is 0, or in a trade or offer above 1,000,000."
 abbrev pub isQuantity : ℕ → Bool
-isQuantity q = leb 1 q && leb q 1000000
+isQuantity q = within 1 1000000 q
 
 -- 13. "The price is 0 or above 10,000,000."
 abbrev pub isPrice : ℕ → Bool
-isPrice p = leb 1 p && leb p 10000000
+isPrice p = within 1 10000000 p
 
 -- the step that today allows on a position besides delivery: r is today minus S, and at r 0 no class allows one
 unfoldable pub stepToday : Book → Position → Step
