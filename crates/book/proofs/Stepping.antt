@@ -1,6 +1,5 @@
 -- One event, by the call of its kind: what that call answers is what the event answers.
 use Prim.Native.Nat.{ℕ}
-use native.Mathlib.Omega.{arith}
 use mathlib.Core.Path.{_≡_, refl, ap, sym, _∙_, subst}
 use mathlib.Core.List.{List, []}
 use mathlib.Core.Bool.{false, true≢false}
@@ -9,7 +8,6 @@ use Rattle.events.specs.declared.Event.{Event}
 use Rattle.events.specs.declared.Event.the-variants as event
 use Rattle.plain.specs.declared.Piece.{Piece}
 use Rattle.plain.specs.declared.Outcome.{Outcome}
-use Rattle.plain.specs.declared.Outcome.the-variants as outcome
 use Rattle.plain.specs.Book as plain
 use Rattle.plain.specs.Calls.{call, handsOut, amount, done}
 use Rattle.plain.specs.Refusals.{reasons, refusal}
@@ -18,9 +16,8 @@ use Rattle.tables.specs.Tables as table
 use Rattle.book.specs.declared.Book.{Book}
 use Rattle.book.specs.declared.Answered.{Answered}
 use Rattle.book.specs.declared.Discharged.{Discharged}
-use Rattle.book.specs.View.{view, Valid, Returned, numberOf, quantityOf}
+use Rattle.book.specs.View.{view, Returned}
 use Rattle.book.specs.Stepping.{WithoutPieces, Stepped, isDischarge}
-use Rattle.book.proofs.Returns.{refused}
 
 -- a call that is refused alike whatever the length of the sheet answers alike
 module _ (b : Book) (e : Event) (m n : ℕ) (same : refusal (view b) (call e m) ≡ refusal (view b) (call e n)) where
@@ -61,12 +58,3 @@ any-sheet b (event.Award a) m n h = refl
 any-sheet b (event.Confirm c) m n h = absurd (true≢false h)
 any-sheet b (event.Cash c) m n h = absurd (true≢false h)
 any-sheet b event.Close m n h = refl
-
--- the event x, which is e: a call without a sheet, or a discharge without one
-module _ (b : Book) (x e : Event) (a : Answered) (is : x ≡ e) where
-  pub answered-so : Returned b (call e 0) (a .book) (a .outcome) [] → Returned b (call x 0) (a .book) (a .outcome) []
-  answered-so h = subst (λ (y : Event). Returned b (call y 0) (a .book) (a .outcome) []) (sym is) h
-
-  pub no-places : Valid b → refusal (view b) (call e 0) ≡ 8 → (a .book ≡ b) × (a .outcome ≡ outcome.Refused 8) → Returned b (call x 0) (a .book) (a .outcome) []
-  no-places v eight h =
-      answered-so (refused b (call e 0) (a .book) (a .outcome) [] v (λ z. omega (arith, sym eight ∙ z)) (ap numberOf (h .1) ∙ sym eight) (ap quantityOf (h .1)) refl (h .0))

@@ -5,7 +5,7 @@ ghost use mathlib.Core.List.{[]};
 ghost use lib.ListN.{length, replicate};
 ghost use Rattle.laws.specs.Asked.{within};
 ghost use Rattle.register.specs.Accepted.{Registered};
-ghost use Rattle.plain.specs.Book.{new, noPosition, nth, noAward, positionOf, awardOf, classOf, latestOf};
+ghost use Rattle.plain.specs.Book.{new, noPosition, nth, noAward, awardOf};
 ghost use Rattle.plain.proofs.Accounts.{Places};
 ghost use Rattle.plain.specs.Calls.{call, done};
 ghost use Rattle.plain.specs.Refusals.{isMember, isQuantity, isPrice, refusal};
@@ -19,7 +19,6 @@ ghost use Rattle.book.specs.Auctions.{Done, ceilingOn, runsOn, awardRefu
 ghost use Rattle.book.specs.Closing.{closeRefusal};
 ghost use Rattle.book.specs.Stepping.{WithoutPieces, Stepped, isDischarge};
 ghost use Rattle.events.specs.declared.Event.the-variants as event;
-ghost use Rattle.plain.specs.declared.Outcome.the-variants as outcome;
 ghost use Rattle.tables.specs.Tables as tables;
 ghost use Rattle.book.specs.Discharging as discharging;
 use events::Attempt;
@@ -1084,30 +1083,5 @@ pub fn is_discharge(e: Event) -> bool
         Event::Confirm(_) => true,
         Event::Cash(_) => true,
         Event::Close => false,
-    }
-}
-
-fn without_places(book: Book) -> Answered
-    ensures { λ r. ⌜ (r .book ≡ book) × (r .outcome ≡ outcome.Refused 8) ⌝ }
-{
-    let outcome = Outcome::Refused(SMALL_SHEET);
-    Answered { book, outcome }
-}
-
-// One event, where no sheet is lent: no table of pieces is made. A discharge is refused.
-pub fn step_without_sheet(book: Book, e: Event) -> Answered
-    requires { ⌜ Valid book ⌝ }
-    ensures { λ r. ⌜ Returned book (call e 0) (r .book) (r .outcome) [] ⌝ }
-{
-    match e {
-        Event::Trade(t) => trade(book, t),
-        Event::Price(p) => price(book, p),
-        Event::Delivery(_) => without_places(book),
-        Event::Attempt(a) => attempt(book, a),
-        Event::Offer(o) => offer(book, o),
-        Event::Award(a) => award(book, a),
-        Event::Confirm(_) => without_places(book),
-        Event::Cash(_) => without_places(book),
-        Event::Close => close(book),
     }
 }

@@ -1,5 +1,5 @@
 -- What the last event of the player's input answers, on a book that was closed so many times first. A file has at most 2,048 events, so that the last day
--- can't be reached by a file alone, and the player lends each call a sheet that is long enough: this shows refusals 8 and 26.
+-- can't be reached by a file alone, and the player plays each call as on a sheet of 1,024 places: this shows refusals 8 and 26.
 use Prim.Native.Nat.{ℕ}
 use mathlib.Core.List.{List}
 use lib.Dec.{ltb}

@@ -3,7 +3,7 @@ use Prim.Native.Nat.{ℕ, _+_, _-_, _*_, _≤_, _<_, min, max}
 use native.Mathlib.Omega.{arith}
 use mathlib.Core.Path.{_≡_, ap, sym, _∙_}
 use mathlib.Core.List.{List, [], _++_, append-nil}
-use mathlib.Core.Bool.{false}
+use mathlib.Core.Bool.{true, false, true≢false}
 use lib.Dec.{ltb}
 use borrow.Author.Tests.{ltb-true, ltb-false}
 use lib.ListN.{length, getD, take, drop}
@@ -12,55 +12,70 @@ use Rattle.laws.specs.Asked.{Said, passed, failed, ask}
 use Rattle.events.specs.declared.Event.{Event}
 use Rattle.events.specs.declared.Event.the-variants as event
 use Rattle.events.specs.File.{eventsOf}
-use Rattle.plain.specs.declared.Outcome.{Outcome}
 use Rattle.plain.specs.declared.Piece.{Piece}
 use Rattle.plain.specs.Calls.{call}
 use Rattle.plain.specs.Refusals as plain
 use Rattle.plain.specs.Histories as histories
-use Rattle.plain.specs.Histories.{run}
+use Rattle.plain.specs.Histories.{next, run}
+use Rattle.tables.specs.Tables as table
 use Rattle.book.specs.declared.Book.{Book}
+use Rattle.book.specs.declared.Answered.{Answered}
+use Rattle.book.specs.declared.Discharged.{Discharged}
 use Rattle.book.specs.View.{view, Valid, Returned, numberOf, quantityOf}
-use Rattle.book.specs.Stepping.{isDischarge}
+use Rattle.book.specs.Stepping.{Stepped, isDischarge}
 use Rattle.book.proofs.Stepping.{other-sheet, any-sheet}
 use Rattle.replay.specs.Replay.{callsOf}
 use Rattle.report.specs.Lines.{LINE, eventLine, pieceLine, pieceLines, eventLines}
 use Rattle.report.specs.Pages.{Put, Wrote, wrote-put, put-lent, put-text, put-none, put-length, lent, back, length-lent}
-use Rattle.transcript.specs.declared.Shown.{Shown}
 use Rattle.transcript.specs.Transcript.{eventText, eventsText}
 use Rattle.transcript.specs.Texts.{text-more, run-more}
-use Rattle.transcript.specs.Playing.{BLOCK, ShownOn, PlayedOn, between}
+use Rattle.transcript.specs.Playing.{BLOCK, PlayedOn, between}
 
--- one event: the call returned, and its number, quantity and pieces are written
-pub shown : (b after : Book) (e : Event) (number : ℕ) (o : Outcome) (items : List Piece) (count refusal quantity used : ℕ) (entry exit : List ℕ)
-    → Returned b (call e 1024) after o (take count items) → refusal ≡ numberOf o → quantity ≡ quantityOf o → BLOCK ≤ length entry
-    → Wrote (LINE * (1 + min count 1024)) (eventLines number refusal quantity (take count items)) entry exit used
-    → ShownOn b e number entry exit (record { book = after; used = used })
-unfolding eventText
-shown b after e number o items count refusal quantity used entry exit r n q room w =
-    let text : eventLines number refusal quantity (take count items) ≡ eventText (view b) number e = rw (n ∙ r .number, q ∙ r .quantity, r .pieces) in
-    record {
-      text = put-text _ _ entry exit used text (wrote-put _ _ entry exit used (omega (arith, room)) w);
-      fits = omega (arith, w .most);
-      book = r .book;
-      valid = r .valid;
-    }
+-- one event on a book: the book after it, and its text in the page's first bytes
+pub record Shown (b : Book) (e : Event) (number : ℕ) (entry exit : List ℕ) (after : Book) (used : ℕ) : Type 0 where
+  pub text : Put (eventText (view b) number e) entry exit used
+  pub fits : used ≤ BLOCK
+  pub book : view after ≡ next (view b) (call e 1024)
+  pub valid : Valid after
 
--- the same of an event whose call has no sheet and hands out no pieces
-pub shown-entry : (b after : Book) (e : Event) (number : ℕ) (o : Outcome) (refusal quantity used : ℕ) (entry exit : List ℕ)
-    → Returned b (call e 0) after o [] → isDischarge e ≡ false → refusal ≡ numberOf o → quantity ≡ quantityOf o → BLOCK ≤ length entry
-    → Wrote LINE (eventLine number refusal quantity) entry exit used
-    → ShownOn b e number entry exit (record { book = after; used = used })
-unfolding eventText eventLines pieceLines
-shown-entry b after e number o refusal quantity used entry exit h plainly n q room w =
-    let r = other-sheet b e 0 1024 (any-sheet (view b) e 0 1024 plainly) after o [] h in
-    let line : eventLine number refusal quantity ≡ eventLine number (plain.refusal (view b) (call e 1024)) (histories.quantity (view b) (call e 1024)) = rw (n ∙ r .number, q ∙ r .quantity) in
-    let text : eventLine number refusal quantity ≡ eventText (view b) number e = line ∙ sym (append-nil _) ∙ ap (λ (xs : List Piece). eventLine number (plain.refusal (view b) (call e 1024)) (histories.quantity (view b) (call e 1024)) ++ each pieceLine xs) (r .pieces) in
-    record {
-      text = put-text _ _ entry exit used text (wrote-put _ _ entry exit used (omega (arith, room)) w);
-      fits = omega (arith, w .most);
-      book = r .book;
-      valid = r .valid;
-    }
+module _ (b : Book) (e : Event) (number : ℕ) (entry exit : List ℕ) (a : Answered) (used : ℕ) (room : BLOCK ≤ length entry) where
+  -- a discharge, whose number, quantity and pieces are written
+  pub shown-discharge : (d : Discharged) → Stepped b e 1024 d → (a .book ≡ d .book) × (a .outcome ≡ d .outcome)
+      → Wrote (LINE * (1 + min (d .pieces .count) 1024)) (eventLines number (numberOf (a .outcome)) (quantityOf (a .outcome)) (table.pieces (d .pieces))) entry exit used
+      → Shown b e number entry exit (a .book) used
+  unfolding eventText
+  shown-discharge d s same w =
+      let r = s .returned in
+      let text : eventLines number (numberOf (a .outcome)) (quantityOf (a .outcome)) (table.pieces (d .pieces)) ≡ eventText (view b) number e = rw (same .1, r .number, r .quantity, r .pieces) in
+      record {
+        text = put-text _ _ entry exit used text (wrote-put _ _ entry exit used (omega (arith, room)) w);
+        fits = omega (arith, w .most);
+        book = rw (same .0) (r .book);
+        valid = rw (same .0) (r .valid);
+      }
+
+  -- an event whose call has no sheet and hands out no pieces
+  pub shown-entry : Returned b (call e 0) (a .book) (a .outcome) [] → isDischarge e ≡ false
+      → Wrote LINE (eventLine number (numberOf (a .outcome)) (quantityOf (a .outcome))) entry exit used → Shown b e number entry exit (a .book) used
+  unfolding eventText eventLines pieceLines
+  shown-entry h plainly w =
+      let r = other-sheet b e 0 1024 (any-sheet (view b) e 0 1024 plainly) (a .book) (a .outcome) [] h in
+      let line : eventLine number (numberOf (a .outcome)) (quantityOf (a .outcome)) ≡ eventLine number (plain.refusal (view b) (call e 1024)) (histories.quantity (view b) (call e 1024)) = rw (r .number, r .quantity) in
+      let text : eventLine number (numberOf (a .outcome)) (quantityOf (a .outcome)) ≡ eventText (view b) number e = line ∙ sym (append-nil _) ∙ ap (λ (xs : List Piece). eventLine number (plain.refusal (view b) (call e 1024)) (histories.quantity (view b) (call e 1024)) ++ each pieceLine xs) (r .pieces) in
+      record {
+        text = put-text _ _ entry exit used text (wrote-put _ _ entry exit used (omega (arith, room)) w);
+        fits = omega (arith, w .most);
+        book = r .book;
+        valid = r .valid;
+      }
+
+-- the event x is of the kind that an arm is for: what the arm's call answers is what x answers
+pub answered-so : (b : Book) (x e : Event) (a r : Answered) → x ≡ e → a ≡ r → Returned b (call e 0) (r .book) (r .outcome) [] → Returned b (call x 0) (a .book) (a .outcome) []
+answered-so b x e a r is same h = rw (is, same) h
+
+-- an arm for a discharge is not reached by another event
+pub no-discharge : (x e : Event) → isDischarge x ≡ false → x ≡ e → isDischarge e ≡ true → ⊥
+no-discharge x e plainly is d = true≢false (sym d ∙ ap isDischarge (sym is) ∙ plainly)
 
 -- what holds after the events from one place up to another
 pub record Reached (file : List ℕ) (b : Book) (from to : ℕ) (entry page : List ℕ) (played : Book) (used : ℕ) : Type 0 where
@@ -84,20 +99,20 @@ none-reached file b from page v =
       valid = v;
     }
 
-pub one-reached : (file : List ℕ) (b : Book) (from to : ℕ) (entry page part : List ℕ) (played : Book) (e : Event) (number used : ℕ) (r : Shown)
+pub one-reached : (file : List ℕ) (b : Book) (from to : ℕ) (entry page part : List ℕ) (played after : Book) (e : Event) (number used more : ℕ)
     → Reached file b from to entry page played used → to < length (eventsOf file) → e ≡ getD (eventsOf file) to event.Close → number ≡ to + 1
-    → used + BLOCK ≤ length entry → ShownOn played e number (lent used page) part r
-    → Reached file b from (to + 1) entry (back used page part) (r .book) (used + r .used)
-one-reached file b from to entry page part played e number used r h inside is numbered room s =
+    → used + BLOCK ≤ length entry → Shown played e number (lent used page) part after more
+    → Reached file b from (to + 1) entry (back used page part) after (used + more)
+one-reached file b from to entry page part played after e number used more h inside is numbered room s =
     let es = eventsOf file in
     let same : eventText (view played) number e ≡ eventText (run (view b) (callsOf (between file from to))) (to + 1) e = rw (h .book, numbered) in
     record {
       low = omega (arith, h .low);
       high = omega arith;
       text =
-          put-text _ _ entry (back used page part) (used + r .used)
+          put-text _ _ entry (back used page part) (used + more)
           (ap (λ (t : List ℕ). eventsText (view b) (from + 1) (between file from to) ++ t) same ∙ sym (text-more es from to event.Close e (h .low) inside is (view b)))
-          (put-lent _ entry page used (h .text) _ part (r .used) (s .text));
+          (put-lent _ entry page used (h .text) _ part more (s .text));
       fits = omega (arith, s .fits);
       book = s .book ∙ rw (h .book) (sym (run-more es from to event.Close e (h .low) inside is (view b)));
       valid = s .valid;

@@ -5,17 +5,15 @@ use mathlib.Core.List.{List}
 use lib.ListN.{length, take, drop}
 use Rattle.events.specs.declared.Event.{Event}
 use Rattle.events.specs.File.{eventsOf}
-use Rattle.plain.specs.Calls.{call}
-use Rattle.plain.specs.Histories.{next, run}
+use Rattle.plain.specs.Histories.{run}
 use Rattle.book.specs.declared.Book.{Book}
 use Rattle.book.specs.View.{view, Valid}
 use Rattle.replay.specs.Replay.{callsOf}
 use Rattle.report.specs.Lines.{LINE}
 use Rattle.report.specs.Pages.{Put}
 use Rattle.transcript.specs.declared.Started.{Started}
-use Rattle.transcript.specs.declared.Shown.{Shown}
 use Rattle.transcript.specs.declared.Played.{Played}
-use Rattle.transcript.specs.Transcript.{registerLength, eventText, eventsText, inputRefusal, opened}
+use Rattle.transcript.specs.Transcript.{registerLength, eventsText, inputRefusal, opened}
 
 -- what is answered before the first event: the refusal, or 0; where the file begins; and the new book
 pub record StartedOn (input : List ℕ) (r : Started) : Type 0 where
@@ -31,13 +29,6 @@ BLOCK = LINE * 1025
 -- the bytes that a page has for the end's lines: 1,024 positions and 64 accounts
 abbrev pub END : ℕ
 END = LINE * 1088
-
--- one event on a book: the book after it, and its text in the page's first bytes
-pub record ShownOn (b : Book) (e : Event) (number : ℕ) (entry exit : List ℕ) (r : Shown) : Type 0 where
-  pub text : Put (eventText (view b) number e) entry exit (r .used)
-  pub fits : r .used ≤ BLOCK
-  pub book : view (r .book) ≡ next (view b) (call e 1024)
-  pub valid : Valid (r .book)
 
 -- the events of a file from one place up to another
 abbrev pub between : List ℕ → ℕ → ℕ → List Event

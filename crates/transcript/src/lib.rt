@@ -1,16 +1,19 @@
 // What the player prints for an input, in blocks that are written into a lent page. Document 01, 'Event files and the player'.
 ghost use mathlib.Core.Path.{_≡_};
-ghost use mathlib.Core.Bool.{false};
-ghost use Prim.Native.Nat.{_≤_, min};
+ghost use Prim.Native.Nat.{_+_, _*_, min};
 ghost use lib.ListN.{length};
 ghost use Rattle.book.specs.View.{view, Valid, numberOf, quantityOf};
-ghost use Rattle.book.specs.Stepping.{isDischarge};
+ghost use Rattle.tables.specs.Tables as tables;
+ghost use Rattle.report.specs.Lines.{LINE, eventLine, eventLines};
 ghost use Rattle.report.specs.Pages.{Wrote};
 ghost use Rattle.transcript.specs.Transcript.{registerLength, endText};
-ghost use Rattle.transcript.specs.Playing.{StartedOn, BLOCK, END, ShownOn, PlayedOn};
+ghost use Rattle.transcript.specs.Playing.{StartedOn, END, PlayedOn};
+use book::Answered;
 use book::Book;
+use book::Discharged;
 use events::Event;
 use plain::Outcome;
+use tables::Pieces;
 
 // What the input answers before its first event: a refusal number, or 0; where its file begins; and the book of its register.
 pub struct Started {
@@ -19,18 +22,15 @@ pub struct Started {
     pub book: Book,
 }
 
-// What one event made: the book after it, and the bytes of its lines.
-pub struct Shown {
-    pub book: Book,
-    pub used: usize,
-}
-
 // What some events of a file made: the book after them, the place of the next event, and the bytes of their lines.
 pub struct Played {
     pub book: Book,
     pub next: usize,
     pub used: usize,
 }
+
+// The places of a sheet that takes the pieces of any discharge.
+const SHEET: usize = 1024;
 
 // A page with fewer bytes takes no event, since the event may have 1,024 pieces.
 const BLOCK: usize = 82_000;
@@ -82,77 +82,80 @@ fn quantity_of(outcome: Outcome) -> u32
     }
 }
 
-// An event whose call has no sheet, and its line.
-fn play_entry(page: &mut [u8], book: Book, e: Event, number: u32) -> Shown
-    requires { ⌜ (Valid book) × (isDischarge e ≡ false) × (BLOCK ≤ length (now page)) ⌝ }
-    ensures { λ r. ⌜ ShownOn book e number (now (page .entry)) (now (page .exit)) r ⌝ }
+// What a discharge answers besides its pieces.
+fn answer_of(dealt: Discharged) -> Answered
+    ensures { λ r. ⌜ (r .book ≡ dealt .book) × (r .outcome ≡ dealt .outcome) ⌝ }
 {
-    let answered = book::step_without_sheet(book, e);
-    let outcome = answered.outcome;
-    let after = answered.book;
+    let book = dealt.book;
+    let outcome = dealt.outcome;
+    Answered { book, outcome }
+}
+
+// A book on which no event was played yet.
+fn unplayed(book: Book) -> Answered
+    ensures { λ r. ⌜ r .book ≡ book ⌝ }
+{
+    let outcome = Outcome::Done(0);
+    Answered { book, outcome }
+}
+
+// The line of an event whose call has no sheet.
+fn entry_line(page: &mut [u8], number: u32, outcome: Outcome) -> usize
+    ensures { λ r. ⌜ Wrote LINE (eventLine number (numberOf outcome) (quantityOf outcome)) (now (page .entry)) (now (page .exit)) r ⌝ }
+{
     let refusal = number_of(outcome);
     let quantity = quantity_of(outcome);
-    let used = report::event_line(page, number, refusal, quantity);
-    Shown { book: after, used }
+    report::event_line(page, number, refusal, quantity)
 }
 
-// An event whose call is lent a sheet, and its lines.
-fn play_discharge(page: &mut [u8], book: Book, e: Event, number: u32) -> Shown
-    requires { ⌜ (Valid book) × (BLOCK ≤ length (now page)) ⌝ }
-    ensures { λ r. ⌜ ShownOn book e number (now (page .entry)) (now (page .exit)) r ⌝ }
+// The lines of a discharge, with its pieces.
+fn discharge_lines(page: &mut [u8], number: u32, outcome: Outcome, pieces: Pieces) -> usize
+    ensures { λ r. ⌜ Wrote (LINE * (1 + min (pieces .count) 1024)) (eventLines number (numberOf outcome) (quantityOf outcome) (tables.pieces pieces)) (now (page .entry)) (now (page .exit)) r ⌝ }
 {
-    let sheet = sheet::blank_sheet();
-    let stepped = sheet::step_by_value(book, sheet, e);
-    let outcome = stepped.outcome;
-    let items = stepped.items;
-    let after = stepped.book;
     let refusal = number_of(outcome);
     let quantity = quantity_of(outcome);
-    let used = report::event_lines(page, number, refusal, quantity, items, stepped.count);
-    Shown { book: after, used }
+    let items = pieces.items;
+    report::event_lines(page, number, refusal, quantity, items, pieces.count)
 }
 
-// One event: the call that it makes, and its lines. A sheet is made for a discharge alone.
-fn play_event(page: &mut [u8], book: Book, e: Event, number: u32) -> Shown
-    requires { ⌜ (Valid book) × (BLOCK ≤ length (now page)) ⌝ }
-    ensures { λ r. ⌜ ShownOn book e number (now (page .entry)) (now (page .exit)) r ⌝ }
-{
-    if book::is_discharge(e) {
-        return play_discharge(page, book, e, number);
-    }
-    play_entry(page, book, e, number)
-}
-
-// Events of a file, from a place on, as long as the page has room for one more with all its pieces.
+// Events of a file, from a place on, as long as the page has room for one more with all its pieces. Each arm assigns the answer itself: where
+// ways of returning a book join, the compiler copies it.
 pub fn play_events(page: &mut [u8], file: &[u8], book: Book, from: usize) -> Played
     requires { ⌜ Valid book ⌝ }
     ensures { λ r. ⌜ PlayedOn (now (file .entry)) book from (now (page .entry)) (now (page .exit)) r ⌝ }
 {
     let count = events::events_in(file) as usize;
     let room = page.len();
-    let mut played = book;
+    let mut answered = unplayed(book);
     let mut next = from;
     let mut used: usize = 0;
-    while next < count {
-        if room < used + BLOCK {
-            return Played {
-                book: played,
-                next,
-                used,
-            };
-        }
+    while next < count && used + BLOCK <= room {
         let event = events::event_at(file, next);
-        let shown = play_event(&mut page[used..], played, event, (next + 1) as u32);
-        let after = shown.book;
-        played = after;
-        used += shown.used;
+        let number = (next + 1) as u32;
+        if book::is_discharge(event) {
+            let dealt = book::step(answered.book, SHEET, event);
+            answered = answer_of(dealt);
+            let outcome = answered.outcome;
+            used += discharge_lines(&mut page[used..], number, outcome, dealt.pieces);
+        } else {
+            match event {
+                Event::Trade(t) => answered = book::trade(answered.book, t),
+                Event::Price(p) => answered = book::price(answered.book, p),
+                Event::Delivery(_) => {}
+                Event::Attempt(a) => answered = book::attempt(answered.book, a),
+                Event::Offer(o) => answered = book::offer(answered.book, o),
+                Event::Award(a) => answered = book::award(answered.book, a),
+                Event::Confirm(_) => {}
+                Event::Cash(_) => {}
+                Event::Close => answered = book::close(answered.book),
+            }
+            let outcome = answered.outcome;
+            used += entry_line(&mut page[used..], number, outcome);
+        }
         next += 1;
     }
-    Played {
-        book: played,
-        next,
-        used,
-    }
+    let book = answered.book;
+    Played { book, next, used }
 }
 
 // The lines of the positions and accounts.
