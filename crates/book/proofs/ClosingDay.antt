@@ -3,17 +3,17 @@ use Prim.Native.Nat.{ℕ, suc, _+_, _<_}
 use native.Mathlib.Omega.{arith}
 use mathlib.Core.Path.{_≡_, refl, ap, sym, _∙_, subst}
 use mathlib.Core.List.{List, []}
-use lib.ListN.{length, take, drop, length-drop}
+use lib.ListN.{length, take, drop}
 use lib.Seq.{length-take-le, drop-length}
 use Rattle.laws.specs.Lists.{All}
 use Rattle.events.specs.declared.Event.the-variants as event
-use Rattle.plain.specs.declared.Ledger.{Ledger}
+use Rattle.plain.specs.declared.Outcome.the-variants as outcome
 use Rattle.plain.specs.Charging.{Charge, posted}
-use Rattle.plain.specs.Calls.{call, charges, done}
+use Rattle.plain.specs.Calls.{call, charges, handsOut, amount, done}
 use Rattle.plain.specs.Refusals.{refusal}
 use Rattle.plain.proofs.Accepted.{close-taken}
 use Rattle.plain.proofs.Sound.{sound-dealt}
-use Rattle.plain.proofs.Accounts.{Places, posted-places}
+use Rattle.plain.proofs.Accounts.{posted-places}
 use Rattle.plain.proofs.Bound.{done-bound}
 use Rattle.plain.proofs.Claim.{bounding, accountable}
 use Rattle.tables.specs.declared.Trades.{Trades}
@@ -25,9 +25,10 @@ use Rattle.ledger.specs.Parts.{closeChargesOf, close-charges}
 use Rattle.ledger.specs.Tabled.{Accounted, Awarded, CloseFinable}
 use Rattle.ledger.proofs.Reached.{call-room, positions-count, all-accounted, all-awarded}
 use Rattle.book.specs.declared.Book.{Book}
-use Rattle.book.specs.View.{view, Fits, Valid}
-use Rattle.book.specs.Closing.{closeRefusal, close-refusal-is}
+use Rattle.book.specs.View.{view, Fits, Valid, Returned}
+use Rattle.book.specs.Closing.{closeRefusal, close-refusal-is, closedBook}
 use Rattle.book.proofs.Entered.{all-held}
+use Rattle.book.proofs.Returns.{taken}
 
 pub close-number : (b : Book) → refusal (view b) (call event.Close 0) ≡ closeRefusal (b .auction .position) (b .day .0)
 unfolding view Rattle.tables.specs.Tables.auction
@@ -95,37 +96,21 @@ module _ (b : Book) (v : Valid b) where
         dated = s .day .below;
       }
 
--- The book after a close, of its ledger and its positions
-
-abbrev pub closedBook : Book → Ledger → Positions → Book
-closedBook b l p =
-    record {
-      register = b .register;
-      day = record { 0 = b .day .0 + 1 };
-      trades = record { items = b .trades .items; count = b .trades .count; netted = b .trades .count };
-      prices = b .prices;
-      positions = p;
-      auction = b .auction;
-      awards = record { items = b .awards .items; count = 0 };
-      marks = record { items = b .marks .items; count = 0 };
-      ledger = l;
-    }
+-- The book after a close
 
 module _
     (b : Book)
     (v : Valid b)
-    (l : Ledger)
     (p : Positions)
-    (charged : l ≡ posted (b .ledger) (closeChargesOf (b .awards) (b .positions) (b .prices) (b .register) (b .day)))
     (netted : DayNetted (b .positions) (b .trades) (b .day) (b .register .count) p)
   where
-    pub closed-view : view (closedBook b l p) ≡ done (view b) event.Close
+    closed-view : view (closedBook b p) ≡ done (view b) event.Close
     unfolding view done Rattle.tables.specs.Tables.today Rattle.tables.specs.Tables.awards Rattle.tables.specs.Tables.marks
     closed-view =
         let tomorrow : b .day .0 + 1 ≡ suc (b .day .0) = omega arith in
         let past = sym (all-held (b .trades) (v .fits .trades)) in
         let trades = none-today (b .trades) (v .fits .trades) in
-        let ledger = charged ∙ ap (λ (cs : List Charge). posted (b .ledger) cs) (same-charges b v) in
+        let ledger = ap (λ (cs : List Charge). posted (b .ledger) cs) (same-charges b v) in
         λ i.
         record {
           register = b .register;
@@ -140,7 +125,7 @@ module _
           ledger = ledger i;
         }
 
-    pub closed-fits : Fits (closedBook b l p)
+    closed-fits : Fits (closedBook b p)
     closed-fits =
         let f = v .fits in
         record {
@@ -150,5 +135,27 @@ module _
           auction = f .auction;
           awards = record { places = f .awards .places; held = omega arith };
           marks = record { places = f .marks .places; held = omega arith };
-          places = subst Places (sym charged) (posted-places (b .ledger) _ (f .places));
+          places = posted-places (b .ledger) _ (f .places);
         }
+
+    -- so a close may return it
+    pub closed : refusal (view b) (call event.Close 0) ≡ 0 → (after : Book) → after ≡ closedBook b p → Returned b (call event.Close 0) after (outcome.Done 0) []
+    unfolding amount handsOut
+    closed e after same =
+        subst (λ (x : Book). Returned b (call event.Close 0) x (outcome.Done 0) []) (sym same)
+        (taken b (call event.Close 0) (closedBook b p) (outcome.Done 0) [] v e refl refl refl closed-view closed-fits)
+
+-- a book with other positions
+abbrev pub withPositions : Positions → Book → Book
+withPositions p b =
+    record {
+      register = b .register;
+      day = b .day;
+      trades = b .trades;
+      prices = b .prices;
+      positions = p;
+      auction = b .auction;
+      awards = b .awards;
+      marks = b .marks;
+      ledger = b .ledger;
+    }

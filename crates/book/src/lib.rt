@@ -16,7 +16,7 @@ ghost use Rattle.book.specs.Reading.{PositionRead, AwardRead, BalanceRea
 ghost use lib.Dec.{eqb};
 ghost use Rattle.rules.specs.Windows.{stepOn, stepKind};
 ghost use Rattle.book.specs.Auctions.{Done, ceilingOn, runsOn, awardRefusal, attemptRefusal, offerRefusal, auctionRefusal};
-ghost use Rattle.book.specs.Closing.{closeRefusal};
+ghost use Rattle.book.specs.Closing.{closeRefusal, closedBook};
 ghost use Rattle.book.specs.Stepping.{WithoutPieces, Stepped, isDischarge};
 ghost use Rattle.events.specs.declared.Event.the-variants as event;
 ghost use Rattle.tables.specs.Tables as tables;
@@ -715,8 +715,10 @@ pub fn offer(book: Book, o: Offer) -> Answered
         let outcome = Outcome::Refused(first);
         return Answered { book, outcome };
     }
-    let short = position_at(book.positions, o.position);
-    let word = auction::failing_members(book.positions, book.day, short.security);
+    let positions = book.positions;
+    let k = (o.position - 1) as usize;
+    let short = positions.items[k];
+    let word = auction::failing_members(positions, book.day, short.security);
     let fails = auction::is_failing(word, o.offerer);
     let number = auction_refusal(fails, book.auction.ceiling, book.auction.count, o.price);
     if number != 0 {
@@ -992,29 +994,25 @@ fn close_refusal(auctioned: u16, day: BusinessDay) -> u8
     0
 }
 
-// The charges go by the positions and awards of the day that ends, so they are posted before it is netted.
-fn close_done(book: Book) -> Book
+// The day ends: its charges are posted, by the positions and awards as they are. Its trades are not netted here.
+fn day_ended(book: Book) -> Book
     requires { ⌜ (Valid book) × (refusal (view book) (call event.Close 0) ≡ 0) ⌝ }
-    ensures { λ r. ⌜ (view r ≡ done (view book) event.Close) × (Fits r) ⌝ }
+    ensures { λ r. ⌜ r ≡ closedBook book (book .positions) ⌝ }
 {
     let day = book.day;
-    let register = book.register;
-    let trades = book.trades;
-    let positions = book.positions;
     let charged = ledger::post_close(
         book.ledger,
         book.awards,
-        positions,
+        book.positions,
         book.prices,
-        register,
+        book.register,
         day,
     );
-    let netted = netting::net_day(positions, trades, day, register.count);
     let tomorrow = BusinessDay(day.0 + 1);
+    let held = book.trades.count;
     let mut after = book;
     after.ledger = charged;
-    after.positions = netted;
-    after.trades.netted = trades.count;
+    after.trades.netted = held;
     after.awards.count = 0;
     after.marks.count = 0;
     after.day = tomorrow;
@@ -1030,8 +1028,18 @@ pub fn close(book: Book) -> Answered
         let outcome = Outcome::Refused(number);
         return Answered { book, outcome };
     }
-    let after = close_done(book);
     let outcome = Outcome::Done(0);
+    let ended = day_ended(book);
+    // a day without trades makes no position
+    if book.trades.netted == book.trades.count {
+        return Answered {
+            book: ended,
+            outcome,
+        };
+    }
+    let netted = netting::net_day(book.positions, book.trades, book.day, book.register.count);
+    let mut after = ended;
+    after.positions = netted;
     Answered {
         book: after,
         outcome,

@@ -5,11 +5,18 @@ use mathlib.Core.List.{[], _∷_}
 use mathlib.Core.Bool.{Bool, true, false, not, _&&_}
 use lib.Dec.{ltb, eqb}
 use Rattle.rules.specs.Charges.{awardFine, lateFine}
+use Rattle.register.specs.declared.Register.{Register}
 use Rattle.plain.specs.declared.Position.{Position}
 use Rattle.plain.specs.declared.Award.{Award}
+use Rattle.plain.specs.declared.Ledger.{Ledger}
 use Rattle.plain.specs.Book.{Book, positionOf, classOf, latestOf}
 use Rattle.plain.specs.Dealing.{due}
-use Rattle.plain.specs.Charging.{awardFines, lateFines}
+use Rattle.plain.specs.Charging.{posted, credited, debited, awardFines, lateFines}
+use Rattle.tables.specs.declared.Positions.{Positions}
+use Rattle.tables.specs.declared.Prices.{Prices}
+use Rattle.tables.specs.declared.Awards.{Awards}
+use Rattle.tables.specs.Tables.{awards}
+use Rattle.ledger.specs.Parts.{awardFinesOf}
 
 -- an award on a position whose security has this latest price; `fined` is what the test said
 module _
@@ -47,3 +54,8 @@ module _
     pub late-fined : (value fine : ℕ) → fined ≡ true → value ≡ p .unsettled * latest → fine ≡ lateFine value → lateFines b p ≡ record { payer = p .member; payee = 0; cents = fine } ∷ []
     unfolding lateFines
     late-fined value fine e v f = rw (← of, ← known, ← test, e, f, v)
+
+-- where there is no award, the ledger is as its fines would leave it
+pub none-fined : (l : Ledger) (a : Awards) (p : Positions) (prices : Prices) (register : Register) → a .count ≡ 0 → l ≡ posted l (awardFinesOf a p prices register)
+unfolding awardFinesOf awards posted credited debited
+none-fined l a p prices register e = rw e

@@ -147,7 +147,12 @@ pub fn post_close(
     requires { ⌜ CloseFinable ledger awards positions prices register day ⌝ }
     ensures { λ r. ⌜ r ≡ posted ledger (closeChargesOf awards positions prices register day) ⌝ }
 {
-    let fined = post_award_fines(ledger, awards, positions, prices, register);
+    let mut fined = ledger;
+    // a day without awards needs no pass over them, and no copy of the positions
+    if 0 < awards.count {
+        let after = post_award_fines(ledger, awards, positions, prices, register);
+        fined = after;
+    }
     post_late_fines(fined, positions, prices, register, day)
 }
 

@@ -76,9 +76,9 @@ module _ (table : Positions) (trades : Trades) (day : BusinessDay) (securities :
       }
 
   -- a day without trades leaves the table as it is
-  pub appended-nothing : trades .netted ≡ trades .count → DayNetted table trades day securities table
+  pub none-netted : trades .netted ≡ trades .count → DayNetted table trades day securities table
   unfolding today
-  appended-nothing e =
+  none-netted e =
       let none : length (today trades) ≡ 0 = simp (length-drop, length-take) (omega arith) in
       record {
         made = sym (ap (λ (l : List Position). positions table ++ l) (netted-nothing (day .0) (today trades) securities none) ∙ append-nil (positions table));

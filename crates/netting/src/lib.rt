@@ -158,10 +158,6 @@ pub fn net_day(table: Positions, trades: Trades, day: BusinessDay, securities: u
     requires { ⌜ DayFits table trades day securities ⌝ }
     ensures { λ r. ⌜ DayNetted table trades day securities r ⌝ }
 {
-    // a day without trades needs no totals
-    if trades.netted == trades.count {
-        return table;
-    }
     let purchases = gather(trades, Side::Purchase);
     let sales = gather(trades, Side::Sale);
     let mut positions = table;

@@ -1,32 +1,46 @@
-use mathlib.Core.Path.{_∙_}
+use native.Mathlib.Omega.{arith}
+use mathlib.Core.Path.{_≡_, _∙_}
+use mathlib.Core.Logic.{⊎-elim}
+use Rattle.plain.specs.Charging.{posted}
 use Rattle.ledger.specs.Posts.{posted-append, room-first, room-then}
-use Rattle.ledger.specs.Parts.{closeChargesOf}
+use Rattle.ledger.specs.Parts.{awardFinesOf, closeChargesOf}
+use Rattle.ledger.proofs.Fines.{none-fined}
 use Rattle.ledger.proofs.post_close.Statement.{statement}
 use Rattle.ledger.proofs.post_close.Tie as tie
+
+-- the fines of the awards are posted, whether there was an award or not
+fined : (c : tie.Joined1) → let a = c .before .before .args in c .if1 .fined ≡ posted (a .ledger) (awardFinesOf (a .awards) (a .positions) (a .prices) (a .register))
+fined c =
+    ⊎-elim
+    (λ w. w .2 ∙ w .1 .ensures)
+    (λ w. w .1 ∙ none-fined _ _ _ _ _ (omega (arith, w .0 .left)))
+    (c .if1 .came)
 
 post-award-fines-requires : tie.Need-post-award-fines-requires
 unfolding closeChargesOf
 post-award-fines-requires c κs =
+    let k = c .before .before in
     record {
-      room = room-first _ _ _ (c .pre .room);
-      positions-fit = c .pre .positions-fit;
-      accounted = c .pre .accounted;
-      awards-fit = c .pre .awards-fit;
-      awarded = c .pre .awarded;
+      room = room-first _ _ _ (k .pre .room);
+      positions-fit = k .pre .positions-fit;
+      accounted = k .pre .accounted;
+      awards-fit = k .pre .awards-fit;
+      awarded = k .pre .awarded;
     }
 
 post-late-fines-requires : tie.Need-post-late-fines-requires
 unfolding closeChargesOf
 post-late-fines-requires c κs =
+    let k = c .before .before in
     record {
-      room = rw (c .post-award-fines .ensures) (room-then _ _ _ (c .before .pre .room));
-      positions-fit = c .before .pre .positions-fit;
-      accounted = c .before .pre .accounted;
+      room = rw (fined c) (room-then _ _ _ (k .pre .room));
+      positions-fit = k .pre .positions-fit;
+      accounted = k .pre .accounted;
     }
 
 returns : tie.Need-returns
 unfolding closeChargesOf
-returns c = (rw (c .before .post-award-fines .ensures) at (c .post-late-fines .ensures)) ∙ posted-append _ _ _
+returns c = (rw (fined (c .before)) at (c .post-late-fines .ensures)) ∙ posted-append _ _ _
 
 pub post-close-spec : {M : Type 1} → statement M
 post-close-spec = tie.close (tie.spec post-award-fines-requires post-late-fines-requires returns)

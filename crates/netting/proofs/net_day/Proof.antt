@@ -13,7 +13,7 @@ use Rattle.netting.specs.declared.Side.the-variants.{Purchase, Sale}
 use Rattle.netting.specs.Gathering.{Gathered}
 use Rattle.netting.proofs.Filling.{Filling, next-place, filling-more}
 use Rattle.netting.proofs.Made.{nettedFrom, unequal}
-use Rattle.netting.proofs.Appending.{append-some, append-none, gatherable, appending-start, appended, appended-nothing}
+use Rattle.netting.proofs.Appending.{append-some, append-none, gatherable, appending-start, appended}
 use Rattle.netting.proofs.net_day.Statement.{statement}
 use Rattle.netting.proofs.net_day.Tie as tie
 
@@ -33,20 +33,17 @@ placed c =
     let x = c .before .before .before in
     let y = x .before .before .before .before in
     let g = y .before .before in
-    let d = g .before .before .before .before .pre in
+    let d = g .before .before .pre in
     next-place 1024 _ _ _ _ _
     (append-some _ _ _ _ (y .loop-test .taken) _ _ (g .before .gather .ensures) (g .gather2 .ensures) _ _ (x .before .before .before .security-at .ensures) (x .is-made .ensures) _ _ _
     (y .before .loop .inv .0 _ _ (g .before .gather .ensures) (g .gather2 .ensures) (appending-start _ _ _ _ d))
-    _ _ (c .before .member-at .ensures) (c .before .before .if2 .taken) (c .position-of .ensures))
-
-returns : tie.Need-returns Inv-loop μ-loop
-returns c = appended-nothing _ _ _ _ (c .before .before .pre) (c .if1 .taken)
+    _ _ (c .before .member-at .ensures) (c .before .before .if1 .taken) (c .position-of .ensures))
 
 gather-requires : tie.Need-gather-requires Inv-loop μ-loop
-gather-requires c κs = gatherable _ _ _ _ (c .before .before .pre)
+gather-requires c κs = gatherable _ _ _ _ (c .pre)
 
 gather-requires-2 : tie.Need-gather-requires-2 Inv-loop μ-loop
-gather-requires-2 c κs = gatherable _ _ _ _ (c .before .before .before .pre)
+gather-requires-2 c κs = gatherable _ _ _ _ (c .before .pre)
 
 loop-holds : tie.Need-loop-holds Inv-loop μ-loop
 loop-holds c = (λ trades whole bought sold f. f, omega arith)
@@ -75,10 +72,10 @@ member-at-requires c κs = omega arith
 position-of-requires : tie.Need-position-of-requires Inv-loop μ-loop
 position-of-requires c κs =
     let x = c .before .before in
-    let begin = x .before .before .before .before .before .before .before .before .before .before in
+    let begin = x .before .before .before .before .before .before .before .before in
     record {
       dated = begin .pre .dated;
-      differ = unequal _ (leb (x .before .before .before .security-at .result) (begin .args .securities)) _ _ (x .is-made .ensures) (c .before .if2 .taken);
+      differ = unequal _ (leb (x .before .before .before .security-at .result) (begin .args .securities)) _ _ (x .is-made .ensures) (c .before .if1 .taken);
     }
 
 mul-position : tie.Need-mul-position Inv-loop μ-loop
@@ -106,14 +103,14 @@ loop-again c =
           ⊎-elim
           (λ w. rw (w .3) (filling-more 1024 _ _ _ _ _ (append-some _ _ _ _ (y .loop-test .taken) _ _ bought sold _ _ s (x .is-made .ensures) _ _ _ now _ _ (w .1 .ensures) (w .0 .taken) (w .2 .ensures))))
           (λ w. rw (w .1) (append-none _ _ _ _ (y .loop-test .taken) _ _ bought sold _ _ s (x .is-made .ensures) _ _ _ now (w .0 .left)))
-          (c .if2 .came),
+          (c .if1 .came),
       omega arith,
     )
 
-returns-2 : tie.Need-returns-2 Inv-loop μ-loop
-returns-2 c =
+returns : tie.Need-returns Inv-loop μ-loop
+returns c =
     let g = c .before .before in
-    let d = g .before .before .before .before .pre in
+    let d = g .before .before .pre in
     appended _ _ _ _ d _ _ (c .loop-test .left) (c .before .loop .inv .0 _ _ (g .before .gather .ensures) (g .gather2 .ensures) (appending-start _ _ _ _ d))
 
 pub net-day-spec : {M : Type 1} → statement M
@@ -122,7 +119,6 @@ net-day-spec =
     (tie.spec
     Inv-loop
     μ-loop
-    returns
     gather-requires
     gather-requires-2
     loop-holds
@@ -140,4 +136,4 @@ net-day-spec =
     add-place
     loop-less
     loop-again
-    returns-2)
+    returns)
