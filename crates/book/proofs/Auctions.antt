@@ -4,12 +4,12 @@ use native.Mathlib.Omega.{arith}
 use native.Mathlib.Numerals.{add-one}
 use mathlib.Core.Path.{_≡_, refl, ap, sym, _∙_, subst}
 use mathlib.Core.Logic.{_≢_}
-use mathlib.Core.Bool.{Bool, true, false, not, _&&_}
+use mathlib.Core.Bool.{Bool, true, false, not}
 use mathlib.Core.List.{List, [], _∷_, _++_}
 use lib.ListN.{length, take, set, getD, length-set}
 use lib.Seq.{length-take-le, take-suc-set, getD-take}
 use lib.Dec.{ltb, leb, eqb}
-use borrow.Author.Tests.{eqb-true, leb-false, lt-ltb, not-false}
+use borrow.Author.Tests.{eqb-true, leb-false, not-false}
 use Rattle.laws.specs.Lists.{only, sum, some}
 use Rattle.laws.specs.Asked.{and-left, and-right, or-left, within-low, within-high, within}
 use Rattle.laws.specs.Alls.{all-of, all-at}
@@ -40,7 +40,8 @@ use Rattle.auction.specs.Members.{WithinWord}
 use Rattle.book.specs.declared.Book.{Book}
 use Rattle.book.specs.declared.Answered.{Answered}
 use Rattle.book.specs.View.{view, Fits, Valid, numberOf, quantityOf, Returned}
-use Rattle.book.specs.Auctions.{Done, ceilingOn, runsOn, awardRefusal, attemptReasons, attemptRefusal, offerReasons, offerRefusal, auctionReasons, auctionRefusal, award-refusal-is, attempt-refusal-is, offer-refusal-is}
+use Rattle.refusals.specs.Auctions.{awardRefusal, attemptReasons, attemptRefusal, offerReasons, offerRefusal, auctionReasons, auctionRefusal, award-refusal-is, attempt-refusal-is, offer-refusal-is}
+use Rattle.book.specs.Auctions.{Done, ceilingOn}
 use Rattle.book.proofs.Returns.{taken}
 
 -- a call whose event is done
@@ -56,13 +57,6 @@ position-is t n low high = sym (getD-take (t .count) (t .items) (n - 1) plain.no
 pub held-is : (t : Positions) → table.PositionsFit t → length (table.positions t) ≡ t .count
 unfolding Rattle.tables.specs.Tables.positions
 held-is t f = length-take-le (t .count) (t .items) (omega (arith, f .places, f .held))
-
--- where no auction runs its position is 0
-pub runs-none : (auction n : ℕ) → auction ≡ 0 → false ≡ runsOn auction n
-runs-none auction n e = subst (λ (k : ℕ). false ≡ runsOn k n) (sym e) refl
-
-pub runs-some : (auction n : ℕ) → auction ≢ 0 → eqb auction n ≡ runsOn auction n
-runs-some auction n h = sym (ap (λ (t : Bool). t && eqb auction n) (lt-ltb 0 auction (omega (arith, h))))
 
 -- An award
 

@@ -26,7 +26,8 @@ use Rattle.ledger.specs.Tabled.{Accounted, Awarded, CloseFinable}
 use Rattle.ledger.proofs.Reached.{call-room, positions-count, all-accounted, all-awarded}
 use Rattle.book.specs.declared.Book.{Book}
 use Rattle.book.specs.View.{view, Fits, Valid, Returned}
-use Rattle.book.specs.Closing.{closeRefusal, close-refusal-is, closedBook}
+use Rattle.refusals.specs.Closing.{closeRefusal, close-refusal-is}
+use Rattle.book.specs.Closing.{closedBook}
 use Rattle.book.proofs.Entered.{all-held}
 use Rattle.book.proofs.Returns.{taken}
 

@@ -59,7 +59,8 @@ use Rattle.ledger.proofs.Reached.{call-room, all-accounted, all-references, all
 use Rattle.book.specs.declared.Book.{Book}
 use Rattle.book.specs.declared.Discharged.{Discharged}
 use Rattle.book.specs.View.{view, Fits, Valid, numberOf, quantityOf, Returned}
-use Rattle.book.specs.Discharging.{lookupReasons, lookupRefusal, deliveryReasons, deliveryRefusal, delivery-refusal-is, confirmReasons, confirmRefusal, confirm-refusal-is, cashReasons, cashRefusal, cash-refusal-is, Terms, Dischargeable, Done, Refused}
+use Rattle.refusals.specs.Discharging.{lookupReasons, lookupRefusal, deliveryReasons, deliveryRefusal, delivery-refusal-is, confirmReasons, confirmRefusal, confirm-refusal-is, cashReasons, cashRefusal, cash-refusal-is}
+use Rattle.book.specs.Discharging.{Terms, Dischargeable, Done, Refused}
 use Rattle.book.proofs.Returns as return
 
 -- Places in use

@@ -19,7 +19,7 @@ use Rattle.tables.specs.declared.Trades.{Trades}
 use Rattle.tables.specs.Tables as table
 use Rattle.book.specs.declared.Book.{Book}
 use Rattle.book.specs.View.{view, Fits}
-use Rattle.book.specs.Entering.{tradeReasons, tradeRefusal, priceReasons, priceRefusal, trade-refusal-is, price-refusal-is}
+use Rattle.refusals.specs.Entering.{tradeReasons, tradeRefusal, priceReasons, priceRefusal, trade-refusal-is, price-refusal-is}
 
 -- the trades of earlier days and of today are all that the table holds
 pub all-held : (t : Trades) → table.TradesFit t → t .netted + length (table.today t) ≡ t .count

@@ -1,5 +1,4 @@
 pub mod View
-pub mod Entering
 pub mod Opening
 pub mod Reading
 pub mod Auctions

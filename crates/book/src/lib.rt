@@ -1,22 +1,18 @@
 // The fails book: a struct by value whose fields only this crate can change, and the calls on it.
-ghost use Prim.Native.Nat.{_<_, _≤_, _-_};
+ghost use Prim.Native.Nat.{_<_, _≤_};
 ghost use mathlib.Core.Path.{_≡_};
 ghost use mathlib.Core.List.{[]};
 ghost use lib.ListN.{length, replicate};
-ghost use Rattle.laws.specs.Asked.{within};
 ghost use Rattle.register.specs.Accepted.{Registered};
 ghost use Rattle.plain.specs.Book.{new, noPosition, nth, noAward, awardOf};
 ghost use Rattle.plain.proofs.Accounts.{Places};
 ghost use Rattle.plain.specs.Calls.{call, done};
-ghost use Rattle.plain.specs.Refusals.{isMember, isQuantity, isPrice, refusal};
+ghost use Rattle.plain.specs.Refusals.{refusal};
 ghost use Rattle.book.specs.View.{view, Fits, Valid, Returned};
-ghost use Rattle.book.specs.Entering.{tradeRefusal, priceRefusal};
 ghost use Rattle.book.specs.Opening.{OpenedOn};
 ghost use Rattle.book.specs.Reading.{PositionRead, AwardRead, BalanceRead};
-ghost use lib.Dec.{eqb};
-ghost use Rattle.rules.specs.Windows.{stepOn, stepKind};
-ghost use Rattle.book.specs.Auctions.{Done, ceilingOn, runsOn, awardRefusal, attemptRefusal, offerRefusal, auctionRefusal};
-ghost use Rattle.book.specs.Closing.{closeRefusal, closedBook};
+ghost use Rattle.book.specs.Auctions.{Done, ceilingOn};
+ghost use Rattle.book.specs.Closing.{closedBook};
 ghost use Rattle.book.specs.Stepping.{WithoutPieces, Stepped, isDischarge};
 ghost use Rattle.events.specs.declared.Event.the-variants as event;
 ghost use Rattle.tables.specs.Tables as tables;
@@ -36,6 +32,8 @@ use plain::Manner;
 use plain::Outcome;
 use plain::Piece;
 use plain::Position;
+use refusals::NO_MEMBER;
+use refusals::NOT_THERE;
 use register::Register;
 use rules::Step;
 use tables::Auction;
@@ -95,102 +93,6 @@ pub enum BalanceAnswer {
     Refused(u8),
 }
 
-// The numbers of document 01, 'Why a call is turned down'.
-const SMALL_SHEET: u8 = 8;
-
-const NO_MEMBER: u8 = 9;
-
-const NOT_REGISTERED: u8 = 10;
-
-const NOT_THERE: u8 = 11;
-
-const WRONG_QUANTITY: u8 = 12;
-
-const WRONG_PRICE: u8 = 13;
-
-const SELLER_IS_BUYER: u8 = 14;
-
-const TRADES_FULL: u8 = 15;
-
-const LONG: u8 = 16;
-
-const OUTSIDE_WINDOW: u8 = 17;
-
-const AUCTION: u8 = 18;
-
-const NO_PRICE: u8 = 19;
-
-const ATTEMPTED: u8 = 20;
-
-const FAILING: u8 = 21;
-
-const ABOVE_CEILING: u8 = 22;
-
-const OFFERS_FULL: u8 = 23;
-
-const NOT_ENOUGH: u8 = 24;
-
-const CONFIRMED: u8 = 25;
-
-const NO_NEXT_DAY: u8 = 26;
-
-fn is_within(low: usize, high: usize, n: usize) -> bool
-    ensures { λ r. ⌜ r ≡ within low high n ⌝ }
-{
-    if low <= n { n <= high } else { false }
-}
-
-fn is_member(member: u8) -> bool
-    ensures { λ r. ⌜ r ≡ isMember member ⌝ }
-{
-    is_within(1, 63, member as usize)
-}
-
-fn is_security(securities: u16, security: u16) -> bool
-    ensures { λ r. ⌜ r ≡ within 1 securities security ⌝ }
-{
-    is_within(1, securities as usize, security as usize)
-}
-
-fn is_quantity(quantity: u32) -> bool
-    ensures { λ r. ⌜ r ≡ isQuantity quantity ⌝ }
-{
-    is_within(1, 1_000_000, quantity as usize)
-}
-
-fn is_price(price: u32) -> bool
-    ensures { λ r. ⌜ r ≡ isPrice price ⌝ }
-{
-    is_within(1, 10_000_000, price as usize)
-}
-
-fn trade_refusal(securities: u16, held: usize, t: Trade) -> u8
-    ensures { λ r. ⌜ r ≡ tradeRefusal securities held t ⌝ }
-{
-    if !is_member(t.seller) {
-        return NO_MEMBER;
-    }
-    if !is_member(t.buyer) {
-        return NO_MEMBER;
-    }
-    if !is_security(securities, t.security) {
-        return NOT_REGISTERED;
-    }
-    if !is_quantity(t.quantity) {
-        return WRONG_QUANTITY;
-    }
-    if !is_price(t.price) {
-        return WRONG_PRICE;
-    }
-    if t.seller == t.buyer {
-        return SELLER_IS_BUYER;
-    }
-    if 512 <= held {
-        return TRADES_FULL;
-    }
-    0
-}
-
 fn add_trade(book: Book, t: Trade) -> Book
     requires { ⌜ (Fits book) × (book .trades .count < 512) ⌝ }
     ensures { λ r. ⌜ (view r ≡ done (view book) (event.Trade t)) × (Fits r) ⌝ }
@@ -208,7 +110,7 @@ pub fn trade(book: Book, t: Trade) -> Answered
     requires { ⌜ Valid book ⌝ }
     ensures { λ r. ⌜ Returned book (call (event.Trade t) 0) (r .book) (r .outcome) [] ⌝ }
 {
-    let number = trade_refusal(book.register.count, book.trades.count, t);
+    let number = refusals::trade_refusal(book.register.count, book.trades.count, t);
     if number != 0 {
         let outcome = Outcome::Refused(number);
         return Answered { book, outcome };
@@ -219,18 +121,6 @@ pub fn trade(book: Book, t: Trade) -> Answered
         book: after,
         outcome,
     }
-}
-
-fn price_refusal(securities: u16, p: Price) -> u8
-    ensures { λ r. ⌜ r ≡ priceRefusal securities p ⌝ }
-{
-    if !is_security(securities, p.security) {
-        return NOT_REGISTERED;
-    }
-    if !is_price(p.price) {
-        return WRONG_PRICE;
-    }
-    0
 }
 
 fn add_price(book: Book, p: Price) -> Book
@@ -249,7 +139,7 @@ pub fn price(book: Book, p: Price) -> Answered
     requires { ⌜ Valid book ⌝ }
     ensures { λ r. ⌜ Returned book (call (event.Price p) 0) (r .book) (r .outcome) [] ⌝ }
 {
-    let number = price_refusal(book.register.count, p);
+    let number = refusals::price_refusal(book.register.count, p);
     if number != 0 {
         let outcome = Outcome::Refused(number);
         return Answered { book, outcome };
@@ -409,7 +299,7 @@ pub fn position(book: Book, number: u16) -> PositionAnswer
     ensures { λ r. ⌜ PositionRead (view book) number r ⌝ }
 {
     let n = number as usize;
-    if !is_within(1, book.positions.count, n) {
+    if !refusals::is_within(1, book.positions.count, n) {
         return PositionAnswer::Refused(NOT_THERE);
     }
     let positions = book.positions;
@@ -438,7 +328,7 @@ pub fn award_at(book: Book, number: u16) -> AwardAnswer
     ensures { λ r. ⌜ AwardRead (view book) number r ⌝ }
 {
     let n = number as usize;
-    if !is_within(1, book.awards.count, n) {
+    if !refusals::is_within(1, book.awards.count, n) {
         return AwardAnswer::Refused(NOT_THERE);
     }
     let awards = book.awards;
@@ -463,17 +353,6 @@ pub fn balance(book: Book, account: u8) -> BalanceAnswer
     BalanceAnswer::Credit(credit - debit)
 }
 
-// Where no auction runs its position is 0, which no position is.
-fn runs_on(auction: u16, position: u16) -> bool
-    ensures { λ r. ⌜ r ≡ runsOn auction position ⌝ }
-{
-    if auction == 0 {
-        false
-    } else {
-        auction == position
-    }
-}
-
 fn position_at(table: Positions, number: u16) -> Position
     requires { ⌜ (tables.PositionsFit table) × (1 ≤ number) × (number ≤ table .count) ⌝ }
     ensures { λ r. ⌜ r ≡ nth noPosition (tables.positions table) number ⌝ }
@@ -481,18 +360,6 @@ fn position_at(table: Positions, number: u16) -> Position
     let n = number as usize;
     let found = table.items[n - 1];
     found
-}
-
-fn award_refusal(held: usize, auction: u16, position: u16) -> u8
-    ensures { λ r. ⌜ r ≡ awardRefusal held auction position ⌝ }
-{
-    if !is_within(1, held, position as usize) {
-        return NOT_THERE;
-    }
-    if !runs_on(auction, position) {
-        return AUCTION;
-    }
-    0
 }
 
 // The auction ends in awards. Its offers' cells stay as they are, past the count.
@@ -521,7 +388,7 @@ pub fn award(book: Book, a: events::Award) -> Answered
     requires { ⌜ Valid book ⌝ }
     ensures { λ r. ⌜ Returned book (call (event.Award a) 0) (r .book) (r .outcome) [] ⌝ }
 {
-    let number = award_refusal(book.positions.count, book.auction.position, a.position);
+    let number = refusals::award_refusal(book.positions.count, book.auction.position, a.position);
     if number != 0 {
         let outcome = Outcome::Refused(number);
         return Answered { book, outcome };
@@ -543,60 +410,6 @@ fn latest_of(prices: Prices, security: u16) -> u32
 {
     let s = security as usize;
     prices.latest[s - 1]
-}
-
-// The step that a day allows on a position. One that is not due allows what r 0 does: none.
-fn step_today(class: u8, day: BusinessDay, p: Position) -> Step
-    ensures { λ r. ⌜ r ≡ stepOn class (day .0 - p .settlement .0) ⌝ }
-{
-    if day.0 < p.settlement.0 {
-        return rules::step_on(class, 0);
-    }
-    rules::step_on(class, day.0 - p.settlement.0)
-}
-
-fn is_attempt(step: Step) -> bool
-    ensures { λ r. ⌜ r ≡ eqb (stepKind step) 4 ⌝ }
-{
-    match step {
-        Step::Nothing => false,
-        Step::Attempt => true,
-        Step::Cash => false,
-    }
-}
-
-fn attempt_refusal(
-    p: Position,
-    today: Step,
-    auction: u16,
-    latest: u32,
-    attempts: usize,
-    marked: bool,
-) -> u8
-    ensures { λ r. ⌜ r ≡ attemptRefusal p today auction latest attempts marked ⌝ }
-{
-    if !p.short {
-        return LONG;
-    }
-    if !is_attempt(today) {
-        return OUTSIDE_WINDOW;
-    }
-    if 0 < auction {
-        return AUCTION;
-    }
-    if latest == 0 {
-        return NO_PRICE;
-    }
-    if 16 <= attempts {
-        return ATTEMPTED;
-    }
-    if marked {
-        return ATTEMPTED;
-    }
-    if p.unsettled == 0 {
-        return NOT_ENOUGH;
-    }
-    0
 }
 
 // The position is marked, and its auction opens without an offer.
@@ -626,16 +439,16 @@ pub fn attempt(book: Book, a: Attempt) -> Answered
     requires { ⌜ Valid book ⌝ }
     ensures { λ r. ⌜ Returned book (call (event.Attempt a) 0) (r .book) (r .outcome) [] ⌝ }
 {
-    if !is_within(1, book.positions.count, a.position as usize) {
+    if !refusals::is_within(1, book.positions.count, a.position as usize) {
         let outcome = Outcome::Refused(NOT_THERE);
         return Answered { book, outcome };
     }
     let p = position_at(book.positions, a.position);
     let class = class_of(book.register, p.security);
     let latest = latest_of(book.prices, p.security);
-    let today = step_today(class, book.day, p);
+    let today = refusals::step_today(class, book.day, p);
     let marked = auction::is_marked(book.marks, a.position);
-    let number = attempt_refusal(
+    let number = refusals::attempt_refusal(
         p,
         today,
         book.auction.position,
@@ -649,44 +462,6 @@ pub fn attempt(book: Book, a: Attempt) -> Answered
     }
     let ceiling = rules::ceiling_of(class, latest);
     open_auction(book, a, ceiling)
-}
-
-// The refusals of an offer that its fields and the auction's position decide.
-fn offer_refusal(held: usize, auction: u16, o: Offer) -> u8
-    ensures { λ r. ⌜ r ≡ offerRefusal held auction o ⌝ }
-{
-    if !is_member(o.offerer) {
-        return NO_MEMBER;
-    }
-    if !is_within(1, held, o.position as usize) {
-        return NOT_THERE;
-    }
-    if !is_quantity(o.quantity) {
-        return WRONG_QUANTITY;
-    }
-    if !is_price(o.price) {
-        return WRONG_PRICE;
-    }
-    if !runs_on(auction, o.position) {
-        return AUCTION;
-    }
-    0
-}
-
-// Those after them, which the auction decides.
-fn auction_refusal(fails: bool, ceiling: u64, offers: usize, price: u32) -> u8
-    ensures { λ r. ⌜ r ≡ auctionRefusal fails ceiling offers price ⌝ }
-{
-    if fails {
-        return FAILING;
-    }
-    if ceiling < price as u64 {
-        return ABOVE_CEILING;
-    }
-    if 16 <= offers {
-        return OFFERS_FULL;
-    }
-    0
 }
 
 fn add_offer(book: Book, o: Offer) -> Answered
@@ -710,7 +485,7 @@ pub fn offer(book: Book, o: Offer) -> Answered
     requires { ⌜ Valid book ⌝ }
     ensures { λ r. ⌜ Returned book (call (event.Offer o) 0) (r .book) (r .outcome) [] ⌝ }
 {
-    let first = offer_refusal(book.positions.count, book.auction.position, o);
+    let first = refusals::offer_refusal(book.positions.count, book.auction.position, o);
     if first != 0 {
         let outcome = Outcome::Refused(first);
         return Answered { book, outcome };
@@ -720,7 +495,12 @@ pub fn offer(book: Book, o: Offer) -> Answered
     let short = positions.items[k];
     let word = auction::failing_members(positions, book.day, short.security);
     let fails = auction::is_failing(word, o.offerer);
-    let number = auction_refusal(fails, book.auction.ceiling, book.auction.count, o.price);
+    let number = refusals::auction_refusal(
+        fails,
+        book.auction.ceiling,
+        book.auction.count,
+        o.price,
+    );
     if number != 0 {
         let outcome = Outcome::Refused(number);
         return Answered { book, outcome };
@@ -755,50 +535,6 @@ fn refused(book: Book, number: u8) -> Discharged
     }
 }
 
-// The refusals before the position or award is looked at.
-fn lookup_refusal(sheet: usize, held: usize, number: u16) -> u8
-    ensures { λ r. ⌜ r ≡ discharging.lookupRefusal sheet held number ⌝ }
-{
-    if sheet < 1024 {
-        return SMALL_SHEET;
-    }
-    if !is_within(1, held, number as usize) {
-        return NOT_THERE;
-    }
-    0
-}
-
-// What is open and not reserved for awards.
-fn free_units(unsettled: u32, reserved: u32) -> u32
-    ensures { λ r. ⌜ r ≡ unsettled - reserved ⌝ }
-{
-    if unsettled < reserved {
-        return 0;
-    }
-    unsettled - reserved
-}
-
-fn delivery_refusal(p: Position, day: BusinessDay, auction: u16, reserved: u32, d: Delivery) -> u8
-    ensures { λ r. ⌜ r ≡ discharging.deliveryRefusal p (day .0) auction reserved d ⌝ }
-{
-    if d.quantity == 0 {
-        return WRONG_QUANTITY;
-    }
-    if !p.short {
-        return LONG;
-    }
-    if day.0 < p.settlement.0 {
-        return OUTSIDE_WINDOW;
-    }
-    if runs_on(auction, d.position) {
-        return AUCTION;
-    }
-    if free_units(p.unsettled, reserved) < d.quantity {
-        return NOT_ENOUGH;
-    }
-    0
-}
-
 fn deliver(book: Book, position: u16, quantity: u32) -> Discharged
     requires { ⌜ discharging.Dischargeable book (event.Delivery (record { position = position; quantity = quantity })) ⌝ }
     ensures { λ r. ⌜ discharging.Done book (event.Delivery (record { position = position; quantity = quantity })) r ⌝ }
@@ -826,13 +562,13 @@ pub fn delivery(book: Book, sheet: usize, d: Delivery) -> Discharged
     requires { ⌜ Valid book ⌝ }
     ensures { λ r. ⌜ (Returned book (call (event.Delivery d) sheet) (r .book) (r .outcome) (tables.pieces (r .pieces))) × (tables.PiecesFit (r .pieces)) ⌝ }
 {
-    let missing = lookup_refusal(sheet, book.positions.count, d.position);
+    let missing = refusals::lookup_refusal(sheet, book.positions.count, d.position);
     if missing != 0 {
         return refused(book, missing);
     }
     let p = position_at(book.positions, d.position);
     let reserved = auction::unconfirmed_units(book.awards, d.position);
-    let number = delivery_refusal(p, book.day, book.auction.position, reserved, d);
+    let number = refusals::delivery_refusal(p, book.day, book.auction.position, reserved, d);
     if number != 0 {
         return refused(book, number);
     }
@@ -846,15 +582,6 @@ fn award_of(awards: Awards, number: u16) -> Award
     let n = number as usize;
     let found = awards.items[n - 1];
     found
-}
-
-fn confirm_refusal(award: Award) -> u8
-    ensures { λ r. ⌜ r ≡ discharging.confirmRefusal award ⌝ }
-{
-    if award.confirmed {
-        return CONFIRMED;
-    }
-    0
 }
 
 // The award's units are bought in, charged to the short's member, and the award is marked.
@@ -896,44 +623,16 @@ pub fn confirm(book: Book, sheet: usize, c: Confirm) -> Discharged
     requires { ⌜ Valid book ⌝ }
     ensures { λ r. ⌜ (Returned book (call (event.Confirm c) sheet) (r .book) (r .outcome) (tables.pieces (r .pieces))) × (tables.PiecesFit (r .pieces)) ⌝ }
 {
-    let missing = lookup_refusal(sheet, book.awards.count, c.award);
+    let missing = refusals::lookup_refusal(sheet, book.awards.count, c.award);
     if missing != 0 {
         return refused(book, missing);
     }
     let award = award_of(book.awards, c.award);
-    let number = confirm_refusal(award);
+    let number = refusals::confirm_refusal(award);
     if number != 0 {
         return refused(book, number);
     }
     buy_in(book, c, award)
-}
-
-fn is_cash(step: Step) -> bool
-    ensures { λ r. ⌜ r ≡ eqb (stepKind step) 8 ⌝ }
-{
-    match step {
-        Step::Nothing => false,
-        Step::Attempt => false,
-        Step::Cash => true,
-    }
-}
-
-fn cash_refusal(p: Position, today: Step, latest: u32) -> u8
-    ensures { λ r. ⌜ r ≡ discharging.cashRefusal p today latest ⌝ }
-{
-    if !p.short {
-        return LONG;
-    }
-    if !is_cash(today) {
-        return OUTSIDE_WINDOW;
-    }
-    if latest == 0 {
-        return NO_PRICE;
-    }
-    if p.unsettled == 0 {
-        return NOT_ENOUGH;
-    }
-    0
 }
 
 // All that is open is dealt out, then priced over the positions as they were, and paid for with the fee.
@@ -967,31 +666,19 @@ pub fn cash(book: Book, sheet: usize, c: Cash) -> Discharged
     requires { ⌜ Valid book ⌝ }
     ensures { λ r. ⌜ (Returned book (call (event.Cash c) sheet) (r .book) (r .outcome) (tables.pieces (r .pieces))) × (tables.PiecesFit (r .pieces)) ⌝ }
 {
-    let missing = lookup_refusal(sheet, book.positions.count, c.position);
+    let missing = refusals::lookup_refusal(sheet, book.positions.count, c.position);
     if missing != 0 {
         return refused(book, missing);
     }
     let p = position_at(book.positions, c.position);
     let class = class_of(book.register, p.security);
     let latest = latest_of(book.prices, p.security);
-    let today = step_today(class, book.day, p);
-    let number = cash_refusal(p, today, latest);
+    let today = refusals::step_today(class, book.day, p);
+    let number = refusals::cash_refusal(p, today, latest);
     if number != 0 {
         return refused(book, number);
     }
     settle_in_cash(book, c, p.unsettled, class, latest)
-}
-
-fn close_refusal(auctioned: u16, day: BusinessDay) -> u8
-    ensures { λ r. ⌜ r ≡ closeRefusal auctioned (day .0) ⌝ }
-{
-    if 0 < auctioned {
-        return AUCTION;
-    }
-    if 9_999 <= day.0 {
-        return NO_NEXT_DAY;
-    }
-    0
 }
 
 // The day ends: its charges are posted, by the positions and awards as they are. Its trades are not netted here.
@@ -1023,7 +710,7 @@ pub fn close(book: Book) -> Answered
     requires { ⌜ Valid book ⌝ }
     ensures { λ r. ⌜ Returned book (call event.Close 0) (r .book) (r .outcome) [] ⌝ }
 {
-    let number = close_refusal(book.auction.position, book.day);
+    let number = refusals::close_refusal(book.auction.position, book.day);
     if number != 0 {
         let outcome = Outcome::Refused(number);
         return Answered { book, outcome };

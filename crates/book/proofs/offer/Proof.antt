@@ -14,7 +14,7 @@ use Rattle.plain.specs.Refusals.{refusal}
 use Rattle.tables.specs.Tables.{positions}
 use Rattle.auction.specs.Members.{tested}
 use Rattle.book.specs.View.{view}
-use Rattle.book.specs.Auctions.{offerRefusal}
+use Rattle.refusals.specs.Auctions.{offerRefusal}
 use Rattle.book.proofs.Answers.{turned-down}
 use Rattle.book.proofs.Auctions.{answered, position-is, offer-first, offer-held, offer-then, members-fit, offer-room}
 use borrow.Author.Needs.{needs}

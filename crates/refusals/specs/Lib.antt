@@ -1,0 +1,4 @@
+pub mod Entering
+pub mod Auctions
+pub mod Discharging
+pub mod Closing
