@@ -18,6 +18,7 @@ mod library {
         pub fn fails_file(file: *const u8, length: usize) -> u64;
         pub fn fails_copy_file(file: *const u8, length: usize, page: *mut u8, page_length: usize) -> u64;
         pub fn fails_last_call(input: *const u8, length: usize, closes: u32, sheet: u32) -> u64;
+        pub fn fails_last_lines(input: *const u8, length: usize, page: *mut u8, page_length: usize) -> u32;
     }
 }
 
@@ -108,4 +109,10 @@ pub fn copy_file(file: &[u8], page: &mut [u8]) -> Answer {
 /// been closed so many times.
 pub fn last_call(input: &[u8], closes: u32, sheet: u32) -> Answer {
     Answer::unpacked(unsafe { library::fails_last_call(input.as_ptr(), input.len(), closes, sheet) })
+}
+
+/// The lines of the last event of the player's input, its call made on a lent sheet, written into the page's first
+/// bytes: how many bytes they have.
+pub fn last_lines(input: &[u8], page: &mut [u8]) -> u32 {
+    unsafe { library::fails_last_lines(input.as_ptr(), input.len(), page.as_mut_ptr(), page.len()) }
 }

@@ -33,6 +33,7 @@ fn main() -> ExitCode {
     compare::events::exhaustive(&mut tests);
     compare::player::exhaustive(&mut tests);
     compare::sheets::exhaustive(&mut tests);
+    compare::lines::exhaustive(&mut tests);
     compare::text::exhaustive(&mut tests);
     for seed in [FIXED_SEED, seed] {
         println!("seed {seed}");
@@ -43,6 +44,7 @@ fn main() -> ExitCode {
         compare::events::seeded(&mut round);
         compare::player::seeded(&mut round);
         compare::sheets::seeded(&mut round);
+        compare::lines::seeded(&mut round);
         compare::text::seeded(&mut round);
     }
 

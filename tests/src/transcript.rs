@@ -25,14 +25,28 @@ pub fn last_call(input: &[u8], closes: u32, sheet: usize) -> Result<Answer, Refu
             break;
         }
     }
-    let Some((last, earlier)) = events.split_last() else {
-        return Ok(Answer::default());
-    };
+    last_of(book, &events, sheet).unwrap_or_else(|| Ok(Answer::default()))
+}
+
+/// The lines of the last event of the file. An input that is refused or has no event has none.
+pub fn last_lines(input: &[u8]) -> Vec<u8> {
+    let mut page = Page(Vec::new());
+    if let Ok((book, events)) = open(input) {
+        if let Some(result) = last_of(book, &events, SHEET_PLACES) {
+            page.call(events.len() as i64, &result);
+        }
+    }
+    page.0
+}
+
+/// The answer to the last of the events, on a sheet of `sheet` places, once the others are played.
+fn last_of(mut book: Book, events: &[Event], sheet: usize) -> Option<Result<Answer, Refusal>> {
+    let (last, earlier) = events.split_last()?;
     for event in earlier {
         // A refused call changes nothing, so the next one follows it as it would an accepted one.
         let _ = book.call(event, SHEET_PLACES);
     }
-    book.call(last, sheet)
+    Some(book.call(last, sheet))
 }
 
 /// The new book and the events, once register and file have passed.

@@ -8,6 +8,8 @@ ghost use Rattle.rules.specs.Charges.{roundedHalfUp, cashFee, awardFine, lateFi
 ghost use Rattle.register.specs.Register.{registerRead};
 ghost use Rattle.calendar.specs.Answers.{dayToDate, dateRefusal, dateValue, dateToDay, dayRefusal, dayValue};
 ghost use Rattle.events.specs.File as file;
+ghost use Rattle.report.specs.Pages.{Wrote};
+ghost use Rattle.transcript.specs.Playing.{BLOCK};
 ghost use Rattle.desk.specs.Answers;
 ghost use Rattle.desk.specs.Last;
 use calendar::DateAnswer;
@@ -154,4 +156,19 @@ pub extern "C" fn fails_last_call(input: &[u8], closes: u32, sheet: u32) -> u64
         Outcome::Done(quantity) => packed(0, quantity),
         Outcome::Refused(refusal) => packed(refusal, 0),
     }
+}
+
+// The lines that the player prints for the last event of its input, from a call on a lent sheet, into the first bytes of the page: how many
+// bytes they have. An input that is refused by 1 to 7 or has no event has no line. A page with fewer than 82,000 bytes takes none.
+#[no_mangle]
+pub extern "C" fn fails_last_lines(input: &[u8], page: &mut [u8]) -> u32
+    ensures { λ r. ⌜ Wrote BLOCK (Last.lastLines (now (input .entry))) (now (page .entry)) (now (page .exit)) r ⌝ }
+{
+    let started = transcript::start(input);
+    if started.number != 0 {
+        return 0;
+    }
+    let file = started.file;
+    let book = started.book;
+    transcript::last_lines(page, &input[file..], book) as u32
 }

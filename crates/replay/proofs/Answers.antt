@@ -24,7 +24,7 @@ use Rattle.book.specs.View.{view, Valid, Returned, numberOf, quantityOf}
 use Rattle.book.proofs.Stepping.{other-sheet}
 use Rattle.book.specs.Opening.{OpenedOn}
 use Rattle.replay.specs.declared.Replayed.{Replayed}
-use Rattle.replay.specs.Replay.{replayRefusal, callsOf, ReadyFor, ReplayedFrom, deciding, beforeLast, LastAnswered}
+use Rattle.replay.specs.Replay.{replayRefusal, callsOf, ReadyFor, ReplayedFrom, deciding, afterCloses, lastEvent, beforeLast, LastAnswered}
 
 abbrev answer : ℕ → Book → Replayed
 answer n b = record { number = n; book = b }
@@ -65,8 +65,8 @@ module _ (b : plain.Book) (closes : ℕ) (events : List Event) (sheet : ℕ) whe
   pub last-none : length events ≡ 0 → LastAnswered b closes events sheet (outcome.Done 0)
   last-none e = record { number = rw (le-ltb 0 (length events) (omega (arith, e))); quantity = rw (le-ltb 0 (length events) (omega (arith, e))) }
 
-  pub last-some : 0 < length events → (o : Outcome) (p : plain.Book) (e : Event) → p ≡ beforeLast b closes events
-      → e ≡ getD events (length events - 1) event.Close → numberOf o ≡ plain-refusal.refusal p (call e sheet) → quantityOf o ≡ quantity p (call e sheet)
+  pub last-some : 0 < length events → (o : Outcome) (p : plain.Book) (e : Event) → p ≡ beforeLast (afterCloses b closes) events
+      → e ≡ lastEvent events → numberOf o ≡ plain-refusal.refusal p (call e sheet) → quantityOf o ≡ quantity p (call e sheet)
       → LastAnswered b closes events sheet o
   last-some some o p e book is number quantity' =
       let there = lt-ltb 0 (length events) some in

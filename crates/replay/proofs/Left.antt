@@ -2,14 +2,14 @@
 use Prim.Native.Nat.{ℕ, zero, suc, _+_, _-_, _≤_, _<_}
 use native.Mathlib.Omega.{arith}
 use mathlib.Core.Path.{_≡_, refl, ap, sym, _∙_}
-use mathlib.Core.List.{List}
+use mathlib.Core.List.{List, [], _∷_}
 use lib.ListN.{length, getD, drop, replicate, drop-of-length-le}
 use Rattle.laws.specs.Places.{drop-at}
 use Rattle.events.specs.declared.Event.{Event}
 use Rattle.plain.specs.Book.{Book}
 use Rattle.plain.specs.Calls.{call}
 use Rattle.plain.specs.Histories.{next, run}
-use Rattle.replay.specs.Replay.{callsOf, closing}
+use Rattle.replay.specs.Replay.{callsOf, closing, beforeLast}
 
 -- a book after the events from the i-th on
 abbrev pub finally : Book → List Event → ℕ → Book
@@ -25,6 +25,12 @@ left-next b after events i d e h same stepped =
 pub left-none : (b : Book) (events : List Event) (i : ℕ) → length events ≤ i → finally b events i ≡ b
 unfolding run
 left-none b events i h = ap (λ (rest : List Event). run b (callsOf rest)) (drop-of-length-le events {i = i} h)
+
+-- where there is no event, none is played before the last
+pub before-none : (b : Book) (events : List Event) → length events ≡ 0 → b ≡ beforeLast b events
+unfolding run
+before-none b [] h = refl
+before-none b (e ∷ events) h = absurd (omega (arith, h))
 
 -- The closes that are left decide it too
 

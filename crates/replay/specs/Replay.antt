@@ -50,16 +50,25 @@ pub record ReplayedFrom (register file : List ℕ) (r : Replayed) : Type 0 where
 abbrev pub closing : Call
 closing = call event.Close 0
 
--- what the last of some events answers, on a book that made so many closes and then all events before the last with sheets of 1,024 places
+-- a book after so many closes
+abbrev pub afterCloses : Book → ℕ → Book
+afterCloses b closes = run b (replicate closes closing)
+
+-- the last of some events, and the call that it makes
+abbrev pub lastEvent : List Event → Event
+lastEvent events = getD events (length events - 1) event.Close
+
 abbrev pub lastCall : List Event → ℕ → Call
-lastCall events sheet = call (getD events (length events - 1) event.Close) sheet
+lastCall events sheet = call (lastEvent events) sheet
 
-abbrev pub beforeLast : Book → ℕ → List Event → Book
-beforeLast b closes events = run (run b (replicate closes closing)) (callsOf (take (length events - 1) events))
+-- a book after all of some events but the last
+abbrev pub beforeLast : Book → List Event → Book
+beforeLast b events = run b (callsOf (take (length events - 1) events))
 
+-- what the last of some events answers, on a book that made so many closes and then all events before the last with sheets of 1,024 places
 pub record LastAnswered (b : Book) (closes : ℕ) (events : List Event) (sheet : ℕ) (o : Outcome) : Type 0 where
-  pub number : numberOf o ≡ only (ltb 0 (length events)) (plain.refusal (beforeLast b closes events) (lastCall events sheet))
-  pub quantity : quantityOf o ≡ only (ltb 0 (length events)) (quantity (beforeLast b closes events) (lastCall events sheet))
+  pub number : numberOf o ≡ only (ltb 0 (length events)) (plain.refusal (beforeLast (afterCloses b closes) events) (lastCall events sheet))
+  pub quantity : quantityOf o ≡ only (ltb 0 (length events)) (quantity (beforeLast (afterCloses b closes) events) (lastCall events sheet))
 
 -- a number that refuses where it is not 0 decides
 pub deciding : (n : ℕ) → n ≡ first ((nonzero n ⇒ n) ∷ [])

@@ -1,13 +1,13 @@
 // A file of events played on a new book. Document 01, 'Event files and the player'.
 ghost use Prim.Native.Nat.{_≤_};
 ghost use mathlib.Core.Path.{_≡_};
-ghost use lib.ListN.{length, take, replicate};
+ghost use lib.ListN.{length, take};
 ghost use Rattle.events.specs.File.{eventsOf};
 ghost use Rattle.plain.specs.Calls.{call};
 ghost use Rattle.plain.specs.Refusals as plain;
 ghost use Rattle.plain.specs.Histories.{run, quantity};
 ghost use Rattle.book.specs.View.{view, Valid, numberOf, quantityOf};
-ghost use Rattle.replay.specs.Replay.{ReadyFor, ReplayedFrom, callsOf, closing, LastAnswered};
+ghost use Rattle.replay.specs.Replay.{ReadyFor, ReplayedFrom, callsOf, afterCloses, beforeLast, LastAnswered};
 use book::Book;
 use events::Event;
 use plain::Outcome;
@@ -73,10 +73,22 @@ pub fn replay(register: &[u8], file: &[u8]) -> Replayed
     }
 }
 
+// The book after all events of a file but the last.
+pub fn before_last(book: Book, file: &[u8]) -> Book
+    requires { ⌜ Valid book ⌝ }
+    ensures { λ r. ⌜ (view r ≡ beforeLast (view book) (eventsOf (now (file .entry)))) × (Valid r) ⌝ }
+{
+    let count = events::events_in(file) as usize;
+    if count == 0 {
+        return book;
+    }
+    play(book, file, count - 1)
+}
+
 // The book after so many closes, the refused ones included.
 fn closed(book: Book, closes: u32) -> Book
     requires { ⌜ Valid book ⌝ }
-    ensures { λ r. ⌜ (view r ≡ run (view book) (replicate closes closing)) × (Valid r) ⌝ }
+    ensures { λ r. ⌜ (view r ≡ afterCloses (view book) closes) × (Valid r) ⌝ }
 {
     let mut after = book;
     let mut left = closes;
@@ -114,7 +126,7 @@ pub fn last_answer(book: Book, closes: u32, file: &[u8], sheet: usize) -> Outcom
         return Outcome::Done(0);
     }
     let later = closed(book, closes);
-    let before = play(later, file, count - 1);
+    let before = before_last(later, file);
     let event = events::event_at(file, count - 1);
     outcome_on(before, sheet, event)
 }

@@ -5,7 +5,7 @@ use mathlib.Core.Path.{_≡_, ap, sym, _∙_}
 use mathlib.Core.List.{List, [], _++_, append-nil}
 use mathlib.Core.Bool.{true, false, true≢false}
 use lib.Dec.{ltb}
-use borrow.Author.Tests.{ltb-true, ltb-false}
+use borrow.Author.Tests.{ltb-true, ltb-false, lt-ltb, le-ltb}
 use lib.ListN.{length, getD, take, drop}
 use Rattle.laws.specs.Lists.{each}
 use Rattle.laws.specs.Asked.{Said, passed, failed, ask}
@@ -13,6 +13,7 @@ use Rattle.events.specs.declared.Event.{Event}
 use Rattle.events.specs.declared.Event.the-variants as event
 use Rattle.events.specs.File.{eventsOf}
 use Rattle.plain.specs.declared.Piece.{Piece}
+use Rattle.plain.specs.declared.Outcome.{Outcome}
 use Rattle.plain.specs.Calls.{call}
 use Rattle.plain.specs.Refusals as plain
 use Rattle.plain.specs.Histories as histories
@@ -24,10 +25,11 @@ use Rattle.book.specs.declared.Discharged.{Discharged}
 use Rattle.book.specs.View.{view, Valid, Returned, numberOf, quantityOf}
 use Rattle.book.specs.Stepping.{Stepped, isDischarge}
 use Rattle.book.proofs.Stepping.{other-sheet, any-sheet}
-use Rattle.replay.specs.Replay.{callsOf}
+use Rattle.sheet.specs.Lent.{ReturnedOn}
+use Rattle.replay.specs.Replay.{callsOf, lastEvent, beforeLast}
 use Rattle.report.specs.Lines.{LINE, eventLine, pieceLine, pieceLines, eventLines}
-use Rattle.report.specs.Pages.{Put, Wrote, wrote-put, put-lent, put-text, put-none, put-length, lent, back, length-lent}
-use Rattle.transcript.specs.Transcript.{eventText, eventsText}
+use Rattle.report.specs.Pages.{Put, Wrote, wrote-put, put-wrote, empty-wrote, put-lent, put-text, put-none, put-length, lent, back, length-lent}
+use Rattle.transcript.specs.Transcript.{eventText, eventsText, lastText}
 use Rattle.transcript.specs.Texts.{text-more, run-more}
 use Rattle.transcript.specs.Playing.{BLOCK, PlayedOn, between}
 
@@ -145,3 +147,24 @@ some-taken file b from to entry page played used h full room = go (ask (ltb from
     go (failed p) =
         let none : to - from ≡ 0 = omega (arith, ltb-false from to p) in
         absurd (omega (arith, h .text .bytes, ap (λ (k : ℕ). length (eventsText (view b) (from + 1) (take k (drop from (eventsOf file))))) none))
+
+-- The last of some events, made on a lent sheet
+module _ (b : Book) (events : List Event) (entry : List ℕ) where
+  -- no event has no text
+  pub last-none : length events ≡ 0 → Wrote BLOCK (lastText (view b) events) entry entry 0
+  unfolding lastText
+  last-none h = rw (le-ltb 0 (length events) (omega (arith, h))) (empty-wrote BLOCK entry)
+
+  -- number and quantity are written as the call answered them, and the pieces as they stand in the sheet when it returns
+  pub last-shown : (before after : Book) (e : Event) (number : ℕ) (ys zs : List Piece) (o : Outcome) (n : ℕ) (exit : List ℕ) (used : ℕ)
+      → 0 < length events → BLOCK ≤ length entry → length ys ≡ 1024
+      → view before ≡ beforeLast (view b) events → e ≡ lastEvent events → number ≡ length events → ReturnedOn before e ys zs after o n
+      → Wrote (LINE * (1 + min n 1024)) (eventLines number (numberOf o) (quantityOf o) (take n zs)) entry exit used
+      → Wrote BLOCK (lastText (view b) events) entry exit used
+  unfolding lastText eventText
+  last-shown before after e number ys zs o n exit used some room long book is numbered on w =
+      let r = on .returned in
+      let put = wrote-put _ _ entry exit used (omega (arith, room)) w in
+      let text : eventLines number (numberOf o) (quantityOf o) (take n zs) ≡ lastText (view b) events =
+      rw (lt-ltb 0 (length events) some, ← book, ← is, ← numbered, r .number, r .quantity, r .pieces, long) in
+      put-wrote BLOCK _ entry exit used room (omega (arith, put .bytes, ap length text, w .most)) (put-text _ _ entry exit used text put)

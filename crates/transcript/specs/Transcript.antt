@@ -1,7 +1,9 @@
 -- Document 01, 'Event files and the player': everything that the player prints for an input, byte for byte.
 use Prim.Native.Nat.{ℕ, zero, suc, _+_, _*_}
+use mathlib.Core.Bool.{cond}
 use mathlib.Core.List.{List, [], _∷_, _++_}
-use lib.ListN.{take, drop}
+use lib.Dec.{ltb}
+use lib.ListN.{length, take, drop}
 use Rattle.laws.specs.Refusals.{accepted}
 use Rattle.laws.specs.Words.{word16At}
 use Rattle.register.specs.Register.{registerRead}
@@ -11,7 +13,7 @@ use Rattle.plain.specs.Book.{Book, new}
 use Rattle.plain.specs.Calls.{call}
 use Rattle.plain.specs.Refusals.{refusal}
 use Rattle.plain.specs.Histories.{next, pieces, quantity, run}
-use Rattle.replay.specs.Replay.{replayRefusal, callsOf}
+use Rattle.replay.specs.Replay.{replayRefusal, callsOf, lastEvent, beforeLast}
 use Rattle.report.specs.Lines.{eventLines, positionLines, accountLines, refusalLine}
 
 -- "The register is the first 2 plus 13 times its count bytes (refusal 1 if the input is shorter), the file all the rest."
@@ -37,6 +39,10 @@ eventText b number e = eventLines number (refusal b (call e 1024)) (quantity b (
 unfoldable pub eventsText : Book → ℕ → List Event → List ℕ
 eventsText b number [] = []
 eventsText b number (e ∷ es) = eventText b number e ++ eventsText (next b (call e 1024)) (suc number) es
+
+-- the last of some events alone, numbered as in their text; those before it are played and not shown. No event has no text.
+unfoldable pub lastText : Book → List Event → List ℕ
+lastText b events = cond (ltb 0 (length events)) (eventText (beforeLast b events) (length events) (lastEvent events)) []
 
 -- "At the end, both by rising number: positions ..; non-zero accounts"
 unfoldable pub endText : Book → List ℕ

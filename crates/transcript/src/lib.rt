@@ -2,12 +2,13 @@
 ghost use mathlib.Core.Path.{_≡_};
 ghost use Prim.Native.Nat.{_+_, _*_, min};
 ghost use lib.ListN.{length};
+ghost use Rattle.events.specs.File.{eventsOf};
 ghost use Rattle.book.specs.View.{view, Valid, numberOf, quantityOf};
 ghost use Rattle.tables.specs.Tables as tables;
 ghost use Rattle.report.specs.Lines.{LINE, eventLine, eventLines};
 ghost use Rattle.report.specs.Pages.{Wrote};
-ghost use Rattle.transcript.specs.Transcript.{registerLength, endText};
-ghost use Rattle.transcript.specs.Playing.{StartedOn, END, PlayedOn};
+ghost use Rattle.transcript.specs.Transcript.{registerLength, endText, lastText};
+ghost use Rattle.transcript.specs.Playing.{StartedOn, BLOCK, END, PlayedOn};
 use book::Answered;
 use book::Book;
 use book::Discharged;
@@ -108,7 +109,7 @@ fn entry_line(page: &mut [u8], number: u32, outcome: Outcome) -> usize
     report::event_line(page, number, refusal, quantity)
 }
 
-// The lines of a discharge, with its pieces.
+// The lines of an event with its pieces. An event that is no discharge has none.
 fn discharge_lines(page: &mut [u8], number: u32, outcome: Outcome, pieces: Pieces) -> usize
     ensures { λ r. ⌜ Wrote (LINE * (1 + min (pieces .count) 1024)) (eventLines number (numberOf outcome) (quantityOf outcome) (tables.pieces pieces)) (now (page .entry)) (now (page .exit)) r ⌝ }
 {
@@ -156,6 +157,31 @@ pub fn play_events(page: &mut [u8], file: &[u8], book: Book, from: usize) -> Pla
     }
     let book = answered.book;
     Played { book, next, used }
+}
+
+// The lines of the last event of a file, whose call is made on a lent sheet. The events before it are played by value, and not shown.
+pub fn last_lines(page: &mut [u8], file: &[u8], book: Book) -> usize
+    requires { ⌜ Valid book ⌝ }
+    ensures { λ r. ⌜ Wrote BLOCK (lastText (view book) (eventsOf (now (file .entry)))) (now (page .entry)) (now (page .exit)) r ⌝ }
+{
+    let count = events::events_in(file) as usize;
+    if count == 0 {
+        return 0;
+    }
+    if page.len() < BLOCK {
+        return 0;
+    }
+    let before = replay::before_last(book, file);
+    let event = events::event_at(file, count - 1);
+    let blank = sheet::blank_sheet();
+    let done = sheet::step_by_value(before, blank, event);
+    let outcome = done.outcome;
+    let items = done.items;
+    let pieces = Pieces {
+        items,
+        count: done.count,
+    };
+    discharge_lines(page, count as u32, outcome, pieces)
 }
 
 // The lines of the positions and accounts.

@@ -3,6 +3,7 @@
 pub mod calendar;
 pub mod charges;
 pub mod events;
+pub mod lines;
 pub mod player;
 pub mod register;
 pub mod sheets;

@@ -77,7 +77,7 @@ s 1 1 D 100 100 0 0 0
 s 2 2 R 100 100 0 0 0
 ";
 
-fn example() -> Vec<Event> {
+pub fn example() -> Vec<Event> {
     let trade = Event::Trade { security: 1, seller: 1, buyer: 2, quantity: 100, price: 1_000 };
     vec![trade, Event::Close, Event::Close, Event::Delivery { short: 1, quantity: 100 }]
 }
@@ -118,7 +118,7 @@ a 3 110000
 a 4 -100000
 ";
 
-fn squeeze() -> Vec<Event> {
+pub fn squeeze() -> Vec<Event> {
     let delivery = Event::Delivery { short: 1, quantity: 30 };
     let closes = |days| vec![Event::Close; days];
     [
@@ -146,7 +146,7 @@ fn squeeze() -> Vec<Event> {
 }
 
 /// In class 2, which has no late fines.
-fn bought_in_below() -> Vec<Event> {
+pub fn bought_in_below() -> Vec<Event> {
     [
         vec![
             Event::Trade { security: 1, seller: 1, buyer: 2, quantity: 30, price: 1_200 },
@@ -212,7 +212,7 @@ fn first_difference(player: &[u8], second: &[u8]) -> (Option<String>, Option<Str
     (line(player_lines.clone().nth(same)), line(second_lines.clone().nth(same)))
 }
 
-fn shown(input: &[u8]) -> String {
+pub fn shown(input: &[u8]) -> String {
     let mut hasher = DefaultHasher::new();
     input.hash(&mut hasher);
     let file = std::env::temp_dir().join(format!("fails-book-input-{:016x}", hasher.finish()));

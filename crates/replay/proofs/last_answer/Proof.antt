@@ -2,14 +2,13 @@
 use Prim.Native.Nat.{ℕ, _-_, _<_}
 use native.Mathlib.Omega.{arith}
 use mathlib.Core.Path.{_≡_, _∙_, ap}
-use lib.ListN.{length, getD, take, replicate}
+use lib.ListN.{length, getD}
 use denote.Ref.{now}
 use Rattle.events.specs.declared.Event.the-variants as event
 use Rattle.events.specs.File.{eventsOf}
 use Rattle.plain.specs.Book as plain
-use Rattle.plain.specs.Histories.{run}
 use Rattle.book.specs.View.{view}
-use Rattle.replay.specs.Replay.{callsOf, closing}
+use Rattle.replay.specs.Replay.{beforeLast}
 use Rattle.replay.proofs.Answers.{last-none, last-some}
 use borrow.Author.Needs.{needs}
 use Rattle.replay.proofs.last_answer.Statement.{statement}
@@ -31,15 +30,8 @@ returns c =
 closed-requires : tie.Need-closed-requires
 closed-requires c κs = search needs
 
-sub-play : tie.Need-sub-play
-sub-play c = search needs
-
-play-requires : tie.Need-play-requires
-play-requires c κs =
-    let k = c .before .before in
-    let start = k .before .before in
-    let file = now (start .args .file) in
-    (c .closed .ensures .1, omega (arith, k .events-in .ensures))
+before-last-requires : tie.Need-before-last-requires
+before-last-requires c κs = c .closed .ensures .1
 
 sub-event-at : tie.Need-sub-event-at
 sub-event-at c = search needs
@@ -60,8 +52,8 @@ returns-2 c =
     let events = eventsOf file in
     let last : k .events-in .result - 1 ≡ length events - 1 = omega (arith, k .events-in .ensures) in
     let some : 0 < length events = omega (arith, k .events-in .ensures, p .before .before .if1 .left) in
-    last-some (view (start .args .book)) (start .args .closes) events (start .args .sheet) some (c .outcome-on .result) (view (p .play .result)) (e .event-at .result)
-    (p .play .ensures .0 ∙ ap (λ (b : plain.Book). run b (callsOf (take (k .events-in .result - 1) events))) (p .before .closed .ensures .0) ∙ ap (λ (n : ℕ). run (run (view (start .args .book)) (replicate (start .args .closes) closing)) (callsOf (take n events))) last)
+    last-some (view (start .args .book)) (start .args .closes) events (start .args .sheet) some (c .outcome-on .result) (view (p .before-last .result)) (e .event-at .result)
+    (p .before-last .ensures .0 ∙ ap (λ (b : plain.Book). beforeLast b events) (p .before .closed .ensures .0))
     (e .event-at .ensures ∙ ap (λ (n : ℕ). getD events n event.Close) last)
     (c .outcome-on .ensures .0)
     (c .outcome-on .ensures .1)
@@ -74,8 +66,7 @@ last-answer-spec =
     cast-count
     returns
     closed-requires
-    sub-play
-    play-requires
+    before-last-requires
     sub-event-at
     event-at-requires
     outcome-on-requires
