@@ -7,7 +7,7 @@ use mathlib.Core.Path.{_≡_, refl, ap, sym, _∙_, subst}
 use mathlib.Core.List.{List, [], _∷_, _++_, map, append-assoc, append-nil}
 use mathlib.Core.Bool.{Bool, true, false, cond}
 use lib.ListN.{length, getD, take, drop, set, length-set}
-use lib.Seq.{take-suc-set}
+use lib.Seq.{take-suc-set, take-set-lt, drop-set-lt}
 use lib.Dec.{eqb}
 use Rattle.laws.specs.Lists.{each}
 use Rattle.rules.specs.Prices.{raised, cashPrice}
@@ -24,21 +24,35 @@ use Rattle.ledger.specs.Parts.{bookOf, pricedBy, paymentsOf, cashCharges
 use Rattle.ledger.specs.Tabled.{Paired}
 use Rattle.ledger.proofs.Elements.{ahead-at, ahead-end, position-at}
 
--- the first n elements of a table, of which those before place i have been changed by f
+-- the first n elements of a table, of which those before place i have been changed by f and the rest is as it was
 module _ {A : Type 0} (f : A → A) (n : ℕ) (items : List A) where
   pub record Changing (i : ℕ) (l : List A) : Type 0 where
     pub same : take i l ++ map f (drop i (take n items)) ≡ map f (take n items)
+    pub rest : drop i (take n l) ≡ drop i (take n items)
     pub size : length l ≡ length items
 
   pub changing-start : Changing 0 items
-  changing-start = record { same = refl; size = refl }
+  changing-start = record { same = refl; rest = refl; size = refl }
 
   module _ (long : n ≤ length items) where
-    pub changing-one : (i : ℕ) (l : List A) (d y : A) → i < n → y ≡ f (getD items i d) → Changing i l → Changing (i + 1) (set l i y)
-    changing-one i l d y less e h =
-        let within : i < length l = omega (arith, h .size) in
-        let split : take i l ++ y ∷ map f (drop (i + 1) (take n items)) ≡ map f (take n items) = rw e (rw (ahead-at n items d i long less) at (h .same)) in
-        record { same = subst (λ (k : ℕ). take k (set l i y) ++ map f (drop (i + 1) (take n items)) ≡ map f (take n items)) (sym (add-one i)) (rw (take-suc-set l i y within, append-assoc) split); size = length-set l i y ∙ h .size }
+    module _ (i : ℕ) (l : List A) (d : A) (less : i < n) (h : Changing i l) where
+      ahead-same : getD l i d ∷ drop (i + 1) (take n l) ≡ getD items i d ∷ drop (i + 1) (take n items)
+      ahead-same = sym (ahead-at n l d i (omega (arith, h .size)) less) ∙ h .rest ∙ ahead-at n items d i long less
+
+      -- the element at place i is still what it was
+      pub changing-at : getD l i d ≡ getD items i d
+      changing-at = cc ahead-same
+
+      pub changing-one : (y : A) → y ≡ f (getD l i d) → Changing (i + 1) (set l i y)
+      changing-one y e =
+          let within : i < length l = omega (arith, h .size) in
+          let split : take i l ++ y ∷ map f (drop (i + 1) (take n items)) ≡ map f (take n items) = rw (e, changing-at) (rw (ahead-at n items d i long less) at (h .same)) in
+          let after : drop (i + 1) (take n l) ≡ drop (i + 1) (take n items) = cc ahead-same in
+          record {
+            same = subst (λ (k : ℕ). take k (set l i y) ++ map f (drop (i + 1) (take n items)) ≡ map f (take n items)) (sym (add-one i)) (rw (take-suc-set l i y within, append-assoc) split);
+            rest = rw (take-set-lt n l i y less) (drop-set-lt (i + 1) (take n l) i y (omega arith) ∙ after);
+            size = length-set l i y ∙ h .size;
+          }
 
     pub changing-end : (i : ℕ) (l : List A) → n ≤ i → i ≤ n → Changing i l → take n l ≡ map f (take n items)
     changing-end i l done most h =

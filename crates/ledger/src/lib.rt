@@ -156,16 +156,17 @@ pub fn post_close(
     post_late_fines(fined, positions, prices, register, day)
 }
 
-// The pieces of a cash settlement with their cents, by the class and the latest price of their security.
+// The pieces of a cash settlement with their cents, by the class and the latest price of their security. The array and
+// its count stay apart until the end, which spares copies of the table.
 pub fn price_pieces(pieces: Pieces, positions: Positions, class: u8, latest: u32) -> Pieces
     requires { ⌜ Priceable pieces positions latest ⌝ }
     ensures { λ r. ⌜ Priced pieces positions class latest r ⌝ }
 {
     let count = pieces.count;
-    let mut priced = pieces;
+    let mut priced = pieces.items;
     let mut i: usize = 0;
     while i < count {
-        let piece = pieces.items[i];
+        let piece = priced[i];
         let short_place = (piece.short - 1) as usize;
         let short = positions.items[short_place];
         let long_place = (piece.long - 1) as usize;
@@ -173,7 +174,7 @@ pub fn price_pieces(pieces: Pieces, positions: Positions, class: u8, latest: u32
         let price = rules::cash_price(class, short.reference, long.reference, latest);
         let cents = (piece.quantity as u64) * price;
         let manner = piece.manner;
-        priced.items[i] = Piece {
+        priced[i] = Piece {
             short: piece.short,
             long: piece.long,
             quantity: piece.quantity,
@@ -182,7 +183,10 @@ pub fn price_pieces(pieces: Pieces, positions: Positions, class: u8, latest: u32
         };
         i += 1;
     }
-    priced
+    Pieces {
+        items: priced,
+        count,
+    }
 }
 
 pub fn post_payments(ledger: Ledger, pieces: Pieces, positions: Positions) -> Ledger

@@ -2,7 +2,7 @@
 use Prim.Native.Nat.{ℕ, _-_, _≤_}
 use native.Mathlib.Omega.{arith}
 use mathlib.Core.Path.{_≡_, refl, ap, sym, _∙_}
-use mathlib.Core.List.{List, []}
+use mathlib.Core.List.{List}
 use lib.ListN.{length, getD, set, take, length-set}
 use lib.Seq.{length-take-le, getD-take, take-set-lt}
 use Rattle.laws.specs.Lists.{All}
@@ -16,12 +16,11 @@ use Rattle.plain.proofs.Accepted.{Within}
 use Rattle.plain.proofs.Invariants.{Whole}
 use Rattle.plain.proofs.Order.{takers-in-order}
 use Rattle.tables.specs.declared.Positions.{Positions}
-use Rattle.tables.specs.declared.Pieces.{Pieces}
 use Rattle.tables.specs.Tables as tables
-use Rattle.positions.specs.Dealing.{positionOf, loweredBy, Sized, Lowerable, Dealing, dealtOut, DealtOut, NoPieces}
+use Rattle.positions.specs.Dealing.{positionOf, loweredBy, Sized, Lowerable, Dealing, dealtOut, DealtOut}
 use Rattle.positions.proofs.Shares.{handed}
 use Rattle.positions.proofs.Lowered.{rising-set, lowered-sized, same-pieces, same-positions}
-use Rattle.positions.proofs.Walk.{State, Stands, Walked}
+use Rattle.positions.proofs.Walk.{State, Stands, Walked, held}
 
 module _ (table : Positions) (day short quantity : ℕ) (h : Dealing table day short quantity) where
   -- the short
@@ -55,12 +54,13 @@ module _ (table : Positions) (day short quantity : ℕ) (h : Dealing table day s
   short-lowerable = rw own-is at own-lowerable
 
   -- the walk begins where the short, now x, has fallen by the quantity
-  module _ (manner : Manner) (x : Position) (low : x ≡ loweredBy manner quantity own) (none : Pieces) (e : NoPieces none) where
+  module _ (manner : Manner) (x : Position) (low : x ≡ loweredBy manner quantity own) (none : List Piece) (e : length none ≡ 1024) where
     abbrev pub start : State
     start =
         record {
-          positions = record { items = set (table .items) (short - 1) x; count = table .count };
-          pieces = none;
+          items = set (table .items) (short - 1) x;
+          shares = none;
+          dealt = 0;
           left = quantity;
           place = 0;
         }
@@ -68,7 +68,7 @@ module _ (table : Positions) (day short quantity : ℕ) (h : Dealing table day s
     abbrev fallen : Position
     fallen = loweredBy manner quantity (positionOf table short)
 
-    started : tables.positions (start .positions) ≡ set ps (short - 1) fallen
+    started : held (table .count) start ≡ set ps (short - 1) fallen
     unfolding tables.positions
     started =
         take-set-lt (table .count) (table .items) (short - 1) x (omega (arith, h .held .above, h .held .below))
@@ -79,10 +79,9 @@ module _ (table : Positions) (day short quantity : ℕ) (h : Dealing table day s
         record {
           few = h .fits .held;
           within = omega arith;
-          held = refl;
           places = simp length-set (h .fits .places);
-          room = omega (arith, e .empty);
-          sheet = e .fits .places;
+          room = omega arith;
+          sheet = e;
           rising = rw started (rising-set ps (short - 1) fallen (omega (arith, table-length, h .held .above, h .held .below)) (unfold loweredBy in refl) (h .rising));
           sized = rw started (all-set Sized ps (short - 1) fallen (lowered-sized manner quantity (positionOf table short) own-lowerable) all-sized);
         }
@@ -91,22 +90,20 @@ module _ (table : Positions) (day short quantity : ℕ) (h : Dealing table day s
     dealt-list = rw (takers-in-order day (positionOf table short .security) ps (h .rising))
 
     -- what has come of the walk is what the definitions say
-    pub walked-deals : (now : State) → Stands (table .count) now → Walked manner short day (own .security) start now
-        → DealtOut table day short quantity manner (record { positions = now .positions; pieces = now .pieces })
+    pub walked-deals : (now : State) → Stands (table .count) now → Walked manner short day (own .security) (table .count) start now
+        → DealtOut table day short quantity manner (record { positions = record { items = now .items; count = table .count }; pieces = record { items = now .shares; count = now .dealt } })
+    unfolding tables.positions tables.pieces
     walked-deals now s w =
         record {
-          pieces = w' .pieces ∙ rw (no-pieces, started) (same-pieces manner short day quantity ps held (h .is-short) (h .suffice) ∙ dealt-list);
-          positions = w' .positions ∙ rw started (same-positions manner short day quantity ps held (h .is-short) (h .suffice) ∙ ap (λ (xs : List Piece). lowering xs ps) dealt-list);
+          pieces = w' .pieces ∙ rw started (same-pieces manner short day quantity ps in-table (h .is-short) (h .suffice) ∙ dealt-list);
+          positions = w' .positions ∙ rw started (same-positions manner short day quantity ps in-table (h .is-short) (h .suffice) ∙ ap (λ (xs : List Piece). lowering xs ps) dealt-list);
           pieces-fit = record { places = s .sheet; held = omega (arith, s .room, s .within, s .few) };
-          positions-fit = record { places = s .places; held = omega (arith, s .held, s .few) };
-          count = s .held;
+          positions-fit = record { places = s .places; held = s .few };
+          count = refl;
         }
       where
-        w' : Walked manner short day (positionOf table short .security) start now
+        w' : Walked manner short day (positionOf table short .security) (table .count) start now
         w' = rw own-is w
 
-        held : Within 1 (length ps) short
-        held = record { above = h .held .above; below = omega (arith, h .held .below, table-length) }
-
-        no-pieces : tables.pieces none ≡ []
-        no-pieces = unfold tables.pieces in rw (e .empty)
+        in-table : Within 1 (length ps) short
+        in-table = record { above = h .held .above; below = omega (arith, h .held .below, table-length) }

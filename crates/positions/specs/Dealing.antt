@@ -14,7 +14,6 @@ use Rattle.plain.specs.Dealing.{mannerNumber, due, longOf, takers, dealTo, lowe
 use Rattle.plain.proofs.Accepted.{Within}
 use Rattle.plain.proofs.Invariants.{Rising, Whole, dueLong, openOf}
 use Rattle.tables.specs.declared.Positions.{Positions}
-use Rattle.tables.specs.declared.Pieces.{Pieces}
 use Rattle.tables.specs.Tables as tables
 use Rattle.positions.specs.declared.Dealt.{Dealt}
 
@@ -84,8 +83,3 @@ pub record DealtOut (table : Positions) (day short quantity : ℕ) (manner : Man
   pub pieces-fit : tables.PiecesFit (r .pieces)
   pub positions-fit : tables.PositionsFit (r .positions)
   pub count : r .positions .count ≡ table .count
-
--- an empty sheet of pieces
-pub record NoPieces (t : Pieces) : Type 0 where
-  pub fits : tables.PiecesFit t
-  pub empty : t .count ≡ 0

@@ -1,6 +1,7 @@
 // A discharge dealt out over the table of positions, in place.
 // Document 01, 'Discharge and pieces'.
 ghost use mathlib.Core.Path.{_≡_};
+ghost use lib.ListN.{length};
 ghost use Rattle.positions.specs.Dealing as spec;
 use laws::BusinessDay;
 use plain::Manner;
@@ -16,8 +17,8 @@ pub struct Dealt {
 }
 
 // An array of its own function, so that what calls it knows its length alone.
-fn no_pieces() -> Pieces
-    ensures { λ r. ⌜ spec.NoPieces r ⌝ }
+fn blank_pieces() -> [Piece; 1024]
+    ensures { λ r. ⌜ length r ≡ 1024 ⌝ }
 {
     let none = Piece {
         short: 0,
@@ -26,11 +27,7 @@ fn no_pieces() -> Pieces
         manner: Manner::Delivered,
         cents: 0,
     };
-    let items = [none; 1024];
-    Pieces {
-        items: items,
-        count: 0,
-    }
+    [none; 1024]
 }
 
 // What a position takes of what is left, 0 where it is no long of the security.
@@ -70,41 +67,48 @@ fn lowered_by(p: Position, manner: Manner, units: u32) -> Position
     after
 }
 
+// A piece as it is dealt; it is priced later.
+fn piece_of(manner: Manner, short: u16, long: u16, units: u32) -> Piece
+    ensures { λ r. ⌜ r ≡ spec.pieceOf manner short long units ⌝ }
+{
+    Piece {
+        short: short,
+        long: long,
+        quantity: units,
+        manner: manner,
+        cents: 0,
+    }
+}
+
 // The table is in order of rising delivery days, so the walk steps along it from day to day, and within a day from
 // position to position; it is left as soon as the quantity is dealt out.
+// Arrays and counts stay apart until the end: the compiler copies a struct whose array is changed at an index that
+// varies.
 pub fn deal(table: Positions, day: BusinessDay, short: u16, quantity: u32, manner: Manner) -> Dealt
     requires { ⌜ spec.Dealing table (day .0) short quantity ⌝ }
     ensures { λ r. ⌜ spec.DealtOut table (day .0) short quantity manner r ⌝ }
 {
     let count = table.count;
-    let mut positions = table;
+    let mut items = table.items;
     let place = (short - 1) as usize;
-    let own = positions.items[place];
-    let security = own.security;
-    positions.items[place] = lowered_by(own, manner, quantity);
-    let mut pieces = no_pieces();
+    let own = items[place];
+    items[place] = lowered_by(own, manner, quantity);
+    let mut shares = blank_pieces();
+    let mut dealt: usize = 0;
     let mut left = quantity;
     let mut i: usize = 0;
     'deal: while i < count {
-        let first = positions.items[i];
-        let settlement = first.settlement.0;
+        let settlement = items[i].settlement.0;
         if day.0 < settlement {
             break 'deal;
         }
-        while i < count && positions.items[i].settlement.0 == settlement {
-            let long = positions.items[i];
-            let units = share_of(long, security, left);
+        while i < count && items[i].settlement.0 == settlement {
+            let long = items[i];
+            let units = share_of(long, own.security, left);
             if 0 < units {
-                let next = pieces.count;
-                pieces.items[next] = Piece {
-                    short: short,
-                    long: (i + 1) as u16,
-                    quantity: units,
-                    manner: manner,
-                    cents: 0,
-                };
-                pieces.count = next + 1;
-                positions.items[i] = lowered_by(long, manner, units);
+                shares[dealt] = piece_of(manner, short, (i + 1) as u16, units);
+                dealt += 1;
+                items[i] = lowered_by(long, manner, units);
                 left -= units;
                 if left == 0 {
                     break 'deal;
@@ -113,5 +117,10 @@ pub fn deal(table: Positions, day: BusinessDay, short: u16, quantity: u32, manne
             i += 1;
         }
     }
+    let positions = Positions { items, count };
+    let pieces = Pieces {
+        items: shares,
+        count: dealt,
+    };
     Dealt { positions, pieces }
 }
