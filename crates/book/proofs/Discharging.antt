@@ -1,19 +1,19 @@
 -- The discharges on the machine's book: their refusals are the plain book's, what they call asks only what holds of a valid book, and what they change stands for
 -- what the plain book changes.
-use Prim.Native.Nat.{ℕ, zero, suc, _+_, _-_, _≤_, _<_}
+use Prim.Native.Nat.{ℕ, _+_, _-_, _≤_}
 use native.Mathlib.Omega.{arith}
 use mathlib.Core.Path.{_≡_, refl, ap, sym, _∙_, subst}
 use mathlib.Core.Logic.{_≢_}
-use mathlib.Core.Bool.{Bool, true, false, _&&_}
+use mathlib.Core.Bool.{Bool, true, false}
 use mathlib.Core.List.{List, [], _∷_, _++_, map}
-use lib.ListN.{length, take, getD}
+use lib.ListN.{length, take}
 use lib.Seq.{length-take-le}
-use lib.Dec.{ltb, eqb}
-use borrow.Author.Tests.{not-false, eq-eqb}
-use Rattle.laws.specs.Lists.{All, only, sum, number}
+use lib.Dec.{ltb}
+use borrow.Author.Tests.{not-false}
+use Rattle.laws.specs.Lists.{All, number}
 use Rattle.laws.specs.Alls.{all-of, all-at, all-anywhere}
 use Rattle.laws.specs.Sums.{sum-map}
-use Rattle.laws.specs.Asked.{both, within-low, within-high}
+use Rattle.laws.specs.Asked.{within-low, within-high}
 use Rattle.laws.specs.Refusals.{Reason, choose, first, none-applies, first-past, first-there}
 use Rattle.events.specs.declared.Delivery.{Delivery}
 use Rattle.events.specs.declared.Confirm.{Confirm}
@@ -38,7 +38,7 @@ use Rattle.plain.specs.Charging.{Charge, charge, buyInCharges, priced, cashChar
 use Rattle.plain.specs.Refusals.{stepToday, reasons, refusal}
 use Rattle.plain.specs.Histories.{eventOf}
 use Rattle.plain.proofs.Accepted.{Within, delivery-taken, confirm-taken, cash-taken}
-use Rattle.plain.proofs.Invariants.{Fair, Dealable, Deals, dueShort, dueLong, openOf, AwardFits}
+use Rattle.plain.proofs.Invariants.{Fair, Dealable, Deals, AwardFits}
 use Rattle.plain.proofs.AwardSteps.{delivery-dealable, confirm-dealable, cash-dealable}
 use Rattle.plain.proofs.Dealt.{deals, longs-suffice}
 use Rattle.plain.proofs.Sound.{done-sound, sound-dealt}

@@ -1,9 +1,9 @@
 -- A book whose tables are not in use yet stands for a new plain book, and is valid where its register is.
-use Prim.Native.Nat.{ℕ, _≤_}
+use Prim.Native.Nat.{ℕ}
 use native.Mathlib.Omega.{arith}
-use mathlib.Core.Path.{_≡_, refl, ap, sym, _∙_, subst}
-use mathlib.Core.List.{List, []}
-use lib.ListN.{length, take, drop, replicate}
+use mathlib.Core.Path.{_≡_, ap, sym, subst}
+use mathlib.Core.List.{List}
+use lib.ListN.{length, replicate}
 use Rattle.register.specs.Accepted.{Registered}
 use Rattle.plain.specs.declared.Ledger.{Ledger}
 use Rattle.plain.specs.Book as plain

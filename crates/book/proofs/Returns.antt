@@ -1,10 +1,8 @@
 -- The two ways in which a call returns: it is refused and the book is as it was, or it is done as the plain book does it.
-use Prim.Native.Nat.{ℕ, zero, suc}
-use native.Mathlib.Omega.{arith}
-use mathlib.Core.Path.{_≡_, refl, ap, sym, _∙_, subst}
+use mathlib.Core.Path.{_≡_, ap, sym, _∙_, subst}
 use mathlib.Core.Logic.{_≢_}
 use mathlib.Core.List.{List, []}
-use Rattle.laws.specs.Refusals.{accepted, accepted-zero, accepted-not}
+use Rattle.laws.specs.Refusals.{accepted-zero, accepted-not}
 use Rattle.plain.specs.declared.Piece.{Piece}
 use Rattle.plain.specs.declared.Outcome.{Outcome}
 use Rattle.plain.specs.Book as plain
@@ -12,7 +10,7 @@ use Rattle.plain.specs.Calls.{Call, handsOut, amount, done}
 use Rattle.plain.specs.Refusals.{refusal}
 use Rattle.plain.specs.Histories.{eventOf, next, pieces, quantity}
 use Rattle.plain.proofs.Sound.{Sound, done-sound, sound-dealt}
-use Rattle.plain.proofs.Accounts.{Places, Balanced, done-balanced}
+use Rattle.plain.proofs.Accounts.{Balanced, done-balanced}
 use Rattle.plain.proofs.Bound.{Bound, done-bound}
 use Rattle.plain.proofs.Claim.{bounding, accountable}
 use Rattle.book.specs.declared.Book.{Book}

@@ -35,7 +35,6 @@ use plain::Position;
 use refusals::NO_MEMBER;
 use refusals::NOT_THERE;
 use register::Register;
-use rules::Step;
 use tables::Auction;
 use tables::Awards;
 use tables::Marks;

@@ -1,6 +1,6 @@
 -- An answer that is packed, by its refusal number.
 use Prim.Native.Nat.{ℕ, zero, suc, _-_}
-use mathlib.Core.Path.{_≡_, refl, ap, ap₂, sym, _∙_, subst}
+use mathlib.Core.Path.{_≡_, ap, ap₂, sym, _∙_, subst}
 use mathlib.Core.List.{List}
 use lib.ListN.{length, take, drop}
 use mathlib.Core.Logic.{_≢_}

@@ -14,7 +14,7 @@ use Rattle.laws.specs.Words.{word16At, word32At}
 use Rattle.laws.specs.WordLaws.{word16-part, word32-part}
 use Rattle.laws.specs.Parts.{getD-part, padded, padded-more, padded-take}
 use Rattle.events.specs.declared.Event.{Event}
-use Rattle.events.specs.Body.{fields, fieldsAt, eventFrom, eventOf}
+use Rattle.events.specs.Body.{fieldsAt, eventFrom, eventOf}
 use Rattle.events.specs.Passing.{length-events}
 use Rattle.events.specs.File.{count, kindsIn, bodiesIn, paired, eventsOf}
 

@@ -14,7 +14,7 @@ use Rattle.laws.specs.Words.{word16, word32, word16At}
 use Rattle.laws.specs.WordLaws.{word16-bytes, word32-bytes}
 use Rattle.events.specs.declared.Event.{Event}
 use Rattle.events.specs.declared.Fields.{Fields}
-use Rattle.events.specs.Body.{kindOf, fields, fieldsOf, body, bodyOf, fieldsAt, eventFrom, eventOf, usesOf, spareSet, InWidth, Fits}
+use Rattle.events.specs.Body.{kindOf, fieldsOf, body, bodyOf, fieldsAt, eventFrom, eventOf, usesOf, spareSet, InWidth, Fits}
 use Rattle.events.specs.File.{count, size, kindsIn, bodiesIn, paired, eventsOf, reasons, checks, refusal, fileOf, answer, numberOf, quantityOf}
 
 -- ---- lengths

@@ -1,5 +1,5 @@
 -- The claim about histories: after every list of the calls from any opened book, refused ones included, with sheets of any length.
-use Prim.Native.Nat.{ℕ, zero, suc, _+_, _-_, _≤_, _<_}
+use Prim.Native.Nat.{ℕ, suc, _+_, _-_, _<_}
 use native.Mathlib.Omega.{arith}
 use mathlib.Core.Path.{_≡_, refl, ap, sym, _∙_, subst}
 use mathlib.Core.Logic.{_≢_}
@@ -7,10 +7,9 @@ use mathlib.Core.List.{List, [], _∷_, _++_, map, append-nil}
 use mathlib.Core.Bool.{not}
 use lib.Seq.{take-length, drop-nil}
 use lib.ListN.{length, getD, drop}
-use lib.Dec.{ltb}
 use borrow.Author.Tests.{not-false, le-ltb}
-use lib.IntN.{ℤ, pos, subℕ}
-use Rattle.laws.specs.Lists.{All, each, range, sum}
+use lib.IntN.{pos, subℕ}
+use Rattle.laws.specs.Lists.{All, range, sum}
 use Rattle.laws.specs.Refusals.{_⇒_, accepted-zero, none-applies}
 use Rattle.laws.specs.Integers.{sumℤ}
 use Rattle.register.specs.declared.Register.{Register}
@@ -23,11 +22,11 @@ use Rattle.plain.specs.Dealing.{takenBy}
 use Rattle.plain.specs.Charging.{creditOf, debitOf}
 use Rattle.plain.specs.Calls.{Call, shortOf}
 use Rattle.plain.specs.Refusals.{refusal}
-use Rattle.plain.specs.Histories.{eventOf, next, pieces, quantity, run, handed, allCharges, acceptedEvents, formed, balance}
+use Rattle.plain.specs.Histories.{eventOf, pieces, quantity, run, handed, allCharges, acceptedEvents, formed, balance}
 use Rattle.plain.proofs.Accepted.{Within, both-bounds, next-keeps}
 use Rattle.plain.proofs.Invariants.{DueLong}
 use Rattle.plain.proofs.Sound.{Sound, done-sound, new-sound}
-use Rattle.plain.proofs.Discharges.{Discharge, discharge}
+use Rattle.plain.proofs.Discharges.{discharge}
 use Rattle.plain.proofs.Bound.{Small}
 use Rattle.plain.proofs.Claim as told
 use Rattle.book.specs.declared.Book.{Book}

@@ -1,12 +1,12 @@
 -- Laws of lists: sums, ranges, tests over a list, numbered lists.
-use Prim.Native.Nat.{ℕ, zero, suc, _+_, _-_, _*_, _≤_, _<_}
+use Prim.Native.Nat.{ℕ, zero, suc, _+_, _-_, _<_}
 use native.Mathlib.Nat.{add-zero}
 use native.Mathlib.Omega.{arith}
 use mathlib.Core.Path.{_≡_, refl, ap, sym, _∙_}
 use mathlib.Core.List.{List, [], _∷_, _++_}
 use mathlib.Core.Bool.{Bool, true, false}
 use lib.ListN.{length, getD}
-use Rattle.laws.specs.Lists.{only, range, keep, filter, sum, each, number, All}
+use Rattle.laws.specs.Lists.{range, keep, filter, sum, each}
 
 pub length-range : (a n : ℕ) → length (range a n) ≡ n
 length-range a zero = refl

@@ -1,14 +1,14 @@
 -- Laws of sums, and of a number that counts only where a test passes.
-use Prim.Native.Nat.{ℕ, zero, suc, _+_, _-_, _*_, _≤_, _<_, min}
+use Prim.Native.Nat.{ℕ, zero, suc, _+_, _-_, _≤_, _<_, min}
 use native.Mathlib.Omega.{arith}
 use mathlib.Core.Path.{_≡_, refl, ap, sym, _∙_}
 use mathlib.Core.Logic.{_≢_}
-use mathlib.Core.List.{List, [], _∷_, _++_, map}
-use mathlib.Core.Bool.{Bool, true, false, _&&_, not}
+use mathlib.Core.List.{List, [], _∷_, map}
+use mathlib.Core.Bool.{Bool, true, false, _&&_}
 use lib.ListN.{length, length-append}
 use lib.Dec.{eqb}
 use borrow.Author.Tests.{ne-eqb, eqb-true, eqb-false}
-use Rattle.laws.specs.Lists.{only, range, keep, sum, each, number, All}
+use Rattle.laws.specs.Lists.{only, range, keep, sum, each, All}
 use Rattle.laws.specs.Asked.{Said, passed, failed, ask}
 use Rattle.laws.specs.Listed.{sum-append}
 

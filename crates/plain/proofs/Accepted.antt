@@ -1,13 +1,13 @@
 -- What an accepted call tells: each of its reasons does not apply. And what holds of every history, where each accepted call keeps it.
 use Prim.Native.Nat.{ℕ, zero, suc, _+_, _-_, _≤_, _<_}
 use native.Mathlib.Omega.{arith}
-use mathlib.Core.Path.{_≡_, refl, ap, sym, _∙_}
+use mathlib.Core.Path.{_≡_, refl}
 use mathlib.Core.Logic.{_≢_}
-use mathlib.Core.List.{List, [], _∷_, _++_}
-use mathlib.Core.Bool.{Bool, true, false, not, _&&_, _||_}
+use mathlib.Core.List.{List, [], _∷_}
+use mathlib.Core.Bool.{true, false}
 use lib.ListN.{length}
-use lib.Dec.{ltb, leb, eqb}
-use borrow.Author.Tests.{ltb-true, ltb-false, leb-false, eqb-true, eqb-false, not-false}
+use lib.Dec.{leb, eqb}
+use borrow.Author.Tests.{ltb-false, leb-false, eqb-true, eqb-false, not-false}
 use Rattle.laws.specs.Lists.{some}
 use Rattle.laws.specs.Asked.{and-left, and-right, or-left, or-right, within, within-low, within-high}
 use Rattle.laws.specs.Refusals.{accepted, none-applies}
@@ -21,15 +21,13 @@ use Rattle.events.specs.declared.Offer.{Offer}
 use Rattle.events.specs.declared.Award as asked
 use Rattle.events.specs.declared.Confirm.{Confirm}
 use Rattle.events.specs.declared.Cash.{Cash}
-use Rattle.events.specs.declared.Event.{Event}
 use Rattle.events.specs.declared.Event.the-variants as event
-use Rattle.plain.specs.declared.Position.{Position}
-use Rattle.plain.specs.Book.{Book, there, positionOf, awardOf, latestOf}
+use Rattle.plain.specs.Book.{Book, positionOf, awardOf, latestOf}
 use Rattle.plain.specs.Dealing.{due}
 use Rattle.plain.specs.Auction.{failing, unconfirmed}
-use Rattle.plain.specs.Calls.{Call, call, done, handsOut}
-use Rattle.plain.specs.Refusals.{isMember, isSecurity, isQuantity, isPrice, stepToday, inWindow, free, auctionRuns, auctionOn, reasons, refusal}
-use Rattle.plain.specs.Histories.{eventOf, next, pieces, run}
+use Rattle.plain.specs.Calls.{Call, call, done}
+use Rattle.plain.specs.Refusals.{isMember, stepToday, free, auctionOn, reasons, refusal}
+use Rattle.plain.specs.Histories.{eventOf, next, run}
 
 -- a number between two bounds, from the test
 pub record Within (low high n : ℕ) : Type 0 where

@@ -1,18 +1,17 @@
 -- Each accepted call keeps what is known of the auction, the marks and the awards; and each discharge may be dealt out.
-use Prim.Native.Nat.{ℕ, zero, suc, _+_, _-_, _*_, _≤_, _<_, min}
+use Prim.Native.Nat.{ℕ, suc, _+_, _-_, _≤_, _<_, min}
 use native.Mathlib.Omega.{arith}
-use native.Mathlib.Nat.{add-zero}
-use mathlib.Core.Path.{_≡_, refl, ap, sym, _∙_, subst}
+use mathlib.Core.Path.{_≡_, refl, ap, sym, _∙_}
 use mathlib.Core.Logic.{_≢_}
 use mathlib.Core.List.{List, [], _∷_, _++_}
 use mathlib.Core.Bool.{Bool, true, false, not, cond, _&&_, true≢false}
 use lib.ListN.{length, getD, length-append}
 use lib.Dec.{ltb, leb, eqb}
 use borrow.Author.Tests.{eq-eqb, ne-eqb, eqb-true, eqb-false, ltb-true, lt-ltb, le-ltb}
-use Rattle.laws.specs.Lists.{All, only, keep, sum, number, some}
+use Rattle.laws.specs.Lists.{All, only, keep, sum, number}
 use Rattle.laws.specs.Asked.{Said, passed, failed, ask, and-left, and-right}
-use Rattle.laws.specs.Sums.{only-zero, only-le, sum-keep}
-use Rattle.laws.specs.Alls.{all-append, all-keep, all-of, all-at, all-number, length-number, some-append, some-last}
+use Rattle.laws.specs.Sums.{only-le, sum-keep}
+use Rattle.laws.specs.Alls.{all-append, all-keep, all-of, all-number, length-number, some-append, some-last}
 use Rattle.rules.specs.Prices.{ceiling}
 use Rattle.register.specs.declared.Register.{Register}
 use Rattle.events.specs.declared.Offer.{Offer}
@@ -21,20 +20,18 @@ use Rattle.events.specs.declared.Attempt.{Attempt}
 use Rattle.events.specs.declared.Award as asked
 use Rattle.events.specs.declared.Confirm.{Confirm}
 use Rattle.events.specs.declared.Cash.{Cash}
-use Rattle.events.specs.declared.Event.the-variants as event
 use Rattle.plain.specs.declared.Position.{Position}
 use Rattle.plain.specs.declared.Piece.{Piece}
 use Rattle.plain.specs.declared.Award.{Award}
 use Rattle.plain.specs.declared.Manner.{Manner}
-use Rattle.plain.specs.Book.{Book, Auction, noAuction, noPosition, noAward, nth, positionOf, awardOf, classOf, latestOf}
-use Rattle.plain.specs.Dealing.{due, lowering}
+use Rattle.plain.specs.Book.{Book, Auction, noAuction, noPosition, noAward, positionOf, awardOf}
+use Rattle.plain.specs.Dealing.{lowering}
 use Rattle.plain.specs.Auction.{insert, byPrice, awarded, unconfirmed, confirmedAward}
 use Rattle.plain.specs.Calls.{auctionAwards}
 use Rattle.plain.specs.Refusals.{stepToday, free, auctionRuns, auctionOn}
-use Rattle.plain.proofs.Accepted.{Within, DeliveryTaken, AttemptTaken, OfferTaken, AwardTaken, ConfirmTaken, CashTaken}
+use Rattle.plain.proofs.Accepted.{DeliveryTaken, AttemptTaken, OfferTaken, AwardTaken, ConfirmTaken, CashTaken}
 use Rattle.plain.proofs.Invariants.{Dealable, Deals, OfferFits, AwardFits}
-use Rattle.plain.proofs.Discharged.{length-lowering}
-use Rattle.plain.proofs.Awards.{kindOn, Marked, marked, Auctioned, window-due, none-on, unconfirmed-append, mark-of, award-marked, unmarked-free, marked-lowered, covered-lowered}
+use Rattle.plain.proofs.Awards.{kindOn, Marked, marked, Auctioned, window-due, none-on, unconfirmed-append, award-marked, unmarked-free, marked-lowered, covered-lowered}
 
 abbrev pub AuctionedBook : Book → Type 0
 AuctionedBook b = Auctioned (b .register) (b .day) (b .positions) (b .auction) (b .awards) (b .marks)

@@ -1,34 +1,29 @@
 -- The auction, the attempt marks and the awards of a day: unconfirmed awards of a short never exceed what is open of it.
-use Prim.Native.Nat.{ℕ, zero, suc, _+_, _-_, _*_, _≤_, _<_, min}
+use Prim.Native.Nat.{ℕ, suc, _+_, _-_, _*_, _≤_, _<_}
 use native.Mathlib.Omega.{arith}
-use native.Mathlib.Nat.{add-zero}
 use mathlib.Core.Path.{_≡_, refl, ap, sym, _∙_, subst}
 use mathlib.Core.Logic.{_≢_}
-use mathlib.Core.List.{List, [], _∷_, _++_}
+use mathlib.Core.List.{List, _++_}
 use mathlib.Core.Bool.{Bool, true, false, not, cond, _&&_, true≢false}
-use lib.ListN.{length, getD, length-append}
+use lib.ListN.{length, getD}
 use lib.Dec.{ltb, leb, eqb}
-use borrow.Author.Tests.{eq-eqb, ne-eqb, eqb-true, eqb-false, ltb-true, ltb-false, leb-true, leb-false, le-leb, lt-leb, lt-ltb, le-ltb}
-use Rattle.laws.specs.Lists.{All, only, keep, sum, number, some}
-use Rattle.laws.specs.Asked.{Said, passed, failed, ask, and-left, and-right}
+use borrow.Author.Tests.{ne-eqb, eqb-true, eqb-false, leb-false}
+use Rattle.laws.specs.Lists.{All, only, some}
+use Rattle.laws.specs.Asked.{Said, passed, failed, ask}
 use Rattle.laws.specs.Listed.{sum-append}
-use Rattle.laws.specs.Sums.{only-zero, only-le, sum-same-all, sum-zero, sum-keep}
-use Rattle.laws.specs.Alls.{all-append, all-keep, all-of, all-at, all-places, all-number, length-number, getD-number, some-of, some-append, some-last}
+use Rattle.laws.specs.Sums.{sum-same-all, sum-zero}
+use Rattle.laws.specs.Alls.{all-of, all-at, some-of}
 use Rattle.rules.specs.Windows.{stepOn, shareStep, recurringStep, stepKind}
 use Rattle.register.specs.declared.Register.{Register}
-use Rattle.events.specs.declared.Offer.{Offer}
-use Rattle.events.specs.declared.Event.the-variants as event
 use Rattle.plain.specs.declared.Position.{Position}
 use Rattle.plain.specs.declared.Piece.{Piece}
 use Rattle.plain.specs.declared.Award.{Award}
 use Rattle.plain.specs.declared.Manner.{Manner}
-use Rattle.plain.specs.declared.Manner.the-variants.{Delivered, BoughtIn, Cash}
-use Rattle.plain.specs.Book.{Book, Auction, noAuction, noPosition, noAward, nth, positionOf, awardOf, classOf}
+use Rattle.plain.specs.Book.{Book, Auction, noPosition, noAward, nth, positionOf}
 use Rattle.plain.specs.Dealing.{due, taken, lowered, lowering}
-use Rattle.plain.specs.Auction.{insert, byPrice, awarded, unconfirmed, confirmedAward}
-use Rattle.plain.specs.Refusals.{stepToday, auctionRuns, auctionOn}
+use Rattle.plain.specs.Auction.{unconfirmed}
 use Rattle.plain.proofs.Accepted.{Within}
-use Rattle.plain.proofs.Invariants.{DueLong, asLong, Dealable, Deals, OfferFits, AwardFits}
+use Rattle.plain.proofs.Invariants.{asLong, Deals, OfferFits, AwardFits}
 use Rattle.plain.proofs.Discharged.{length-lowering, lowering-at, taken-short, taken-other, no-long}
 
 -- the kind of the step that a day allows on a position

@@ -9,9 +9,9 @@ use mathlib.Core.List.{List, [], _∷_, map}
 use mathlib.Core.Bool.{Bool, true, false, not, _&&_, cond}
 use lib.ListN.{length, getD}
 use lib.Dec.{ltb, leb, eqb}
-use Rattle.laws.specs.Lists.{only, keep, sum, each, All}
+use Rattle.laws.specs.Lists.{only, sum, each, All}
 use Rattle.laws.specs.Listed.{sum-append}
-use Rattle.laws.specs.Sums.{only-le, only-mono, sum-same-all, sum-each, sum-keep}
+use Rattle.laws.specs.Sums.{only-le, sum-same-all, sum-each, sum-keep}
 use Rattle.laws.specs.Alls.{all-of, all-any, all-anywhere}
 use Rattle.laws.specs.Integers.{total, place-le, sum-at-most, sum-times, magnitude, sub-magnitude}
 use Rattle.rules.specs.declared.Amount.{Amount}
@@ -23,12 +23,11 @@ use Rattle.events.specs.declared.Trade.{Trade}
 use Rattle.events.specs.declared.Delivery.{Delivery}
 use Rattle.events.specs.declared.Confirm.{Confirm}
 use Rattle.events.specs.declared.Cash as asked
-use Rattle.events.specs.declared.Event.{Event}
 use Rattle.events.specs.declared.Event.the-variants as event
 use Rattle.plain.specs.declared.Position.{Position}
 use Rattle.plain.specs.declared.Piece.{Piece}
 use Rattle.plain.specs.declared.Award.{Award}
-use Rattle.plain.specs.declared.Manner.the-variants.{Delivered, BoughtIn, Cash}
+use Rattle.plain.specs.declared.Manner.the-variants.{Cash}
 use Rattle.plain.specs.declared.Ledger.{Ledger}
 use Rattle.plain.specs.Book.{Book, new, noPosition, noAward, positionOf, awardOf, classOf, latestOf}
 use Rattle.plain.specs.Netting.{keys, netted}
@@ -39,7 +38,7 @@ use Rattle.plain.specs.Refusals.{refusal}
 use Rattle.plain.specs.Histories.{eventOf, run, balance}
 use Rattle.register.specs.declared.Register.{Register}
 use Rattle.plain.proofs.Accepted.{cash-taken, close-taken, run-keeps}
-use Rattle.plain.proofs.Invariants.{TradeFits, Fair, AwardFits, Deals, Dealt, openOf}
+use Rattle.plain.proofs.Invariants.{TradeFits, Fair, AwardFits, Dealt, openOf}
 use Rattle.plain.proofs.Accounts.{cents, posts-credits, posted-most, Accountable, Balanced, run-kept}
 use Rattle.plain.proofs.Discharged.{shorts-fall}
 use Rattle.plain.proofs.Netted.{New, netted-new, netted-units, keys-once}

@@ -1,16 +1,14 @@
 -- The claim about histories, for the plain book: what holds after every list of calls, refused ones included, from any new book.
-use Prim.Native.Nat.{ℕ, zero, suc, _+_, _*_, _≤_, _<_}
+use Prim.Native.Nat.{ℕ, suc, _+_, _≤_, _<_}
 use native.Mathlib.Omega.{arith}
-use mathlib.Core.Path.{_≡_, refl}
+use mathlib.Core.Path.{_≡_}
 use mathlib.Core.Logic.{_≢_}
-use mathlib.Core.List.{List, [], _∷_, _++_, map}
+use mathlib.Core.List.{List, [], map}
 use lib.ListN.{length, getD}
-use lib.IntN.{ℤ, pos, subℕ}
-use Rattle.laws.specs.Lists.{All, range}
+use lib.IntN.{pos, subℕ}
+use Rattle.laws.specs.Lists.{range}
 use Rattle.laws.specs.Integers.{sumℤ}
 use Rattle.register.specs.declared.Register.{Register}
-use Rattle.plain.specs.declared.Position.{Position}
-use Rattle.plain.specs.declared.Piece.{Piece}
 use Rattle.plain.specs.declared.Manner.the-variants.{Delivered, BoughtIn, Cash}
 use Rattle.plain.specs.Book.{Book, new, noPosition}
 use Rattle.plain.specs.Netting.{keys}

@@ -1,20 +1,20 @@
 -- What a close makes of the positions: those that fall due next are even, since they were netted even and are untouched.
-use Prim.Native.Nat.{ℕ, zero, suc, _+_, _-_, _≤_, _<_}
+use Prim.Native.Nat.{ℕ, suc, _+_, _-_, _≤_, _<_}
 use native.Mathlib.Omega.{arith}
-use mathlib.Core.Path.{_≡_, refl, ap, sym, _∙_}
+use mathlib.Core.Path.{_≡_, refl, ap}
 use mathlib.Core.Logic.{_≢_}
-use mathlib.Core.List.{List, [], _∷_, _++_}
-use mathlib.Core.Bool.{Bool, true, false, not, _&&_}
-use lib.Dec.{ltb, leb, eqb}
-use borrow.Author.Tests.{eq-eqb, ne-eqb, eqb-true, eqb-false, leb-true, leb-false, le-leb, lt-leb}
-use Rattle.laws.specs.Lists.{All, only, sum}
+use mathlib.Core.List.{List, _++_}
+use mathlib.Core.Bool.{Bool, true, false, _&&_}
+use lib.Dec.{leb, eqb}
+use borrow.Author.Tests.{ne-eqb, eqb-true, eqb-false, leb-true, leb-false, le-leb, lt-leb}
+use Rattle.laws.specs.Lists.{All, only}
 use Rattle.laws.specs.Asked.{Said, passed, failed, ask}
 use Rattle.laws.specs.Listed.{sum-append}
 use Rattle.laws.specs.Sums.{sum-same, sum-same-all, sum-add, sum-zero}
-use Rattle.laws.specs.Alls.{all-append, all-of, all-both}
+use Rattle.laws.specs.Alls.{all-append, all-of}
 use Rattle.plain.specs.declared.Position.{Position}
 use Rattle.plain.specs.Dealing.{due, longOf}
-use Rattle.plain.proofs.Invariants.{Whole, Untouched, dueShort, dueLong, openOf, nettedOf, shortOn, longOn, Even}
+use Rattle.plain.proofs.Invariants.{Whole, Untouched, openOf, nettedOf, shortOn, longOn, Even}
 use Rattle.plain.proofs.Netted.{New, new-whole}
 
 pub made-untouched : (day next : ℕ) (ps : List Position) → All (New day) ps → All (Untouched next) ps

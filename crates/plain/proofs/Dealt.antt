@@ -1,18 +1,17 @@
 -- The pieces of a discharge: dealt out to the due longs of the short's security, they add up to its quantity and no long is given more than is open of it.
-use Prim.Native.Nat.{ℕ, zero, suc, _+_, _-_, _*_, _≤_, _<_, min}
+use Prim.Native.Nat.{ℕ, zero, suc, _+_, _-_, _≤_, _<_, min}
 use native.Mathlib.Omega.{arith}
 use native.Mathlib.Nat.{add-zero}
-use mathlib.Core.Path.{_≡_, refl, ap, sym, _∙_, subst}
-use mathlib.Core.Logic.{_≢_}
-use mathlib.Core.List.{List, [], _∷_, _++_, map}
+use mathlib.Core.Path.{_≡_, refl, ap, _∙_, subst}
+use mathlib.Core.List.{List, [], _∷_, map}
 use mathlib.Core.Bool.{Bool, true, false, not, _&&_}
 use lib.ListN.{length, getD}
 use lib.Dec.{ltb, leb, eqb}
-use borrow.Author.Tests.{eq-eqb, ne-eqb, eqb-true, eqb-false, ltb-true, ltb-false, leb-true, leb-false, le-leb, lt-leb, lt-ltb, not-true}
-use Rattle.laws.specs.Lists.{All, only, keep, sum, each, range}
+use borrow.Author.Tests.{eq-eqb, ne-eqb, eqb-true, leb-true, leb-false, le-leb, lt-ltb, not-true}
+use Rattle.laws.specs.Lists.{All, only, keep, sum, range}
 use Rattle.laws.specs.Asked.{Said, passed, failed, ask, and-left, and-right, both}
-use Rattle.laws.specs.Sums.{only-zero, only-le, only-mono, only-and, sum-keep, sum-each, sum-same, sum-le, sum-swap, sum-one, sum-none, sum-once, sum-map}
-use Rattle.laws.specs.Alls.{all-keep, all-each, all-of, all-map, all-range}
+use Rattle.laws.specs.Sums.{only-zero, only-le, only-mono, sum-keep, sum-each, sum-same, sum-le, sum-swap, sum-one, sum-once, sum-map}
+use Rattle.laws.specs.Alls.{all-keep, all-each, all-map, all-range}
 use Rattle.plain.specs.declared.Position.{Position}
 use Rattle.plain.specs.declared.Piece.{Piece}
 use Rattle.plain.specs.declared.Manner.{Manner}
@@ -20,7 +19,6 @@ use Rattle.plain.specs.Book.{Book, noPosition, positionOf}
 use Rattle.plain.specs.Dealing.{due, longOf, Taker, longsOn, takers, share, dealTo}
 use Rattle.plain.specs.Charging.{priced}
 use Rattle.plain.specs.Calls.{dealt}
-use Rattle.plain.proofs.Accepted.{Within}
 use Rattle.plain.proofs.Invariants.{dueShort, dueLong, openOf, Even, DueLong, asLong, Dealable, Deals}
 
 -- Over any list of takers

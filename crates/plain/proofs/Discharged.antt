@@ -1,14 +1,14 @@
 -- What the pieces of a discharge make of the positions: open quantities fall by each piece on both sides, and equal totals stay equal.
-use Prim.Native.Nat.{ℕ, zero, suc, _+_, _-_, _*_, _≤_, _<_}
+use Prim.Native.Nat.{ℕ, suc, _+_, _-_, _≤_, _<_}
 use native.Mathlib.Omega.{arith}
 use native.Mathlib.Nat.{add-zero}
 use mathlib.Core.Path.{_≡_, refl, ap, sym, _∙_, subst}
 use mathlib.Core.Logic.{_≢_}
-use mathlib.Core.List.{List, [], _∷_, _++_}
-use mathlib.Core.Bool.{Bool, true, false, not, _&&_, true≢false}
+use mathlib.Core.List.{List, [], _∷_}
+use mathlib.Core.Bool.{Bool, true, false, true≢false}
 use lib.ListN.{length, getD}
-use lib.Dec.{ltb, leb, eqb}
-use borrow.Author.Tests.{eq-eqb, ne-eqb, eqb-true, eqb-false, leb-true, le-leb, lt-leb, leb-false}
+use lib.Dec.{eqb}
+use borrow.Author.Tests.{eq-eqb, ne-eqb, eqb-true, eqb-false, lt-leb}
 use Rattle.laws.specs.Lists.{All, only, sum, number}
 use Rattle.laws.specs.Asked.{Said, passed, failed, ask}
 use Rattle.laws.specs.Sums.{only-zero, only-add, only-sub, only-sum, sum-same-all, sum-add, sum-zero}
@@ -20,7 +20,7 @@ use Rattle.plain.specs.declared.Manner.the-variants.{Delivered, BoughtIn
 use Rattle.plain.specs.Book.{Book, noPosition, positionOf, nth}
 use Rattle.plain.specs.Dealing.{mannerNumber, due, longOf, names, taken, takenBy, lowered, lowering}
 use Rattle.plain.proofs.Accepted.{Within}
-use Rattle.plain.proofs.Invariants.{Whole, Untouched, dueShort, dueLong, openOf, nettedOf, shortOn, longOn, Even, DueLong, asLong, Dealable, Deals}
+use Rattle.plain.proofs.Invariants.{Whole, Untouched, dueShort, dueLong, openOf, shortOn, longOn, Even, DueLong, asLong, Deals}
 
 -- Lowered positions
 

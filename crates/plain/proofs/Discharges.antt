@@ -1,18 +1,14 @@
 -- What one call hands out: an accepted discharge's pieces add up to its quantity; a refused call hands out and changes nothing.
-use Prim.Native.Nat.{ℕ, zero, suc, _+_}
-use native.Mathlib.Omega.{arith}
-use mathlib.Core.Path.{_≡_, refl, ap, sym, _∙_}
+use Prim.Native.Nat.{ℕ}
+use mathlib.Core.Path.{_≡_, refl}
 use mathlib.Core.Logic.{_≢_}
-use mathlib.Core.List.{List, [], _∷_, _++_}
+use mathlib.Core.List.{[]}
 use Rattle.laws.specs.Lists.{All, sum}
-use Rattle.laws.specs.Refusals.{accepted, accepted-zero, accepted-not}
-use Rattle.events.specs.declared.Event.{Event}
+use Rattle.laws.specs.Refusals.{accepted-zero, accepted-not}
 use Rattle.events.specs.declared.Event.the-variants as event
-use Rattle.plain.specs.declared.Piece.{Piece}
 use Rattle.plain.specs.declared.Manner.{Manner}
 use Rattle.plain.specs.declared.Manner.the-variants as manner
 use Rattle.plain.specs.Book.{Book, positionOf, awardOf}
-use Rattle.plain.specs.Charging.{Charge}
 use Rattle.plain.specs.Calls.{Call, call, handsOut, charges, amount, shortOf, done}
 use Rattle.plain.specs.Refusals.{refusal}
 use Rattle.plain.specs.Histories.{eventOf, next, pieces, quantity, charged}

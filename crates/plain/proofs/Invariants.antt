@@ -1,10 +1,10 @@
 -- What holds of every book that a history reaches, part by part. The parts are stated over what they speak of, so that a call that leaves it as it was keeps them as they are.
-use Prim.Native.Nat.{ℕ, zero, suc, _+_, _-_, _*_, _≤_, _<_}
+use Prim.Native.Nat.{ℕ, suc, _+_, _-_, _≤_, _<_}
 use mathlib.Core.Path.{_≡_}
-use mathlib.Core.List.{List, [], _∷_, _++_}
-use mathlib.Core.Bool.{Bool, true, false, not, _&&_}
+use mathlib.Core.List.{List, [], _∷_}
+use mathlib.Core.Bool.{Bool, true, false, _&&_}
 use lib.ListN.{length, getD}
-use lib.Dec.{ltb, leb, eqb}
+use lib.Dec.{eqb}
 use Rattle.laws.specs.Lists.{All, only, sum}
 use Rattle.events.specs.declared.Trade.{Trade}
 use Rattle.events.specs.declared.Offer.{Offer}

@@ -1,23 +1,20 @@
 -- What holds of every book that a history reaches from a new one: all parts together.
-use Prim.Native.Nat.{ℕ, zero, suc, _+_, _*_, _≤_}
+use Prim.Native.Nat.{ℕ}
 use native.Mathlib.Omega.{arith}
-use mathlib.Core.Path.{_≡_, refl, sym, subst}
-use mathlib.Core.List.{List, [], _∷_, _++_}
-use lib.ListN.{length}
+use mathlib.Core.Path.{_≡_, refl}
+use mathlib.Core.List.{List, []}
 use Rattle.laws.specs.Lists.{All}
 use Rattle.rules.specs.Prices.{ceiling}
 use Rattle.register.specs.declared.Register.{Register}
 use Rattle.events.specs.declared.Event.{Event}
 use Rattle.events.specs.declared.Event.the-variants as event
 use Rattle.plain.specs.declared.Position.{Position}
-use Rattle.plain.specs.declared.Piece.{Piece}
 use Rattle.plain.specs.declared.Manner.the-variants as manner
-use Rattle.plain.specs.Book.{Book, new, noAuction, positionOf, awardOf, classOf, latestOf}
+use Rattle.plain.specs.Book.{Book, new, noAuction, positionOf, classOf, latestOf}
 use Rattle.plain.specs.Netting.{keys, netted}
-use Rattle.plain.specs.Dealing.{lowering}
 use Rattle.plain.specs.Calls.{Call, call, discharged, handsOut, done}
 use Rattle.plain.specs.Refusals.{refusal}
-use Rattle.plain.specs.Histories.{eventOf, run, handed}
+use Rattle.plain.specs.Histories.{eventOf, run}
 use Rattle.plain.proofs.Accepted.{run-keeps, attempt-taken, offer-taken, award-taken, delivery-taken, confirm-taken, cash-taken, close-taken}
 use Rattle.plain.proofs.Invariants.{Whole, Untouched, Even, Dealt}
 use Rattle.plain.proofs.Netted.{Netting, netting}

@@ -1,9 +1,9 @@
 -- What holds of the day, the trades, the prices and the positions of every book that a history reaches from a new one.
-use Prim.Native.Nat.{ℕ, zero, suc, _+_, _*_, _≤_}
+use Prim.Native.Nat.{ℕ, _+_, _*_, _≤_}
 use native.Mathlib.Omega.{arith}
 use mathlib.Core.Path.{_≡_}
 use mathlib.Core.List.{List}
-use lib.ListN.{length, replicate, length-replicate}
+use lib.ListN.{length, length-replicate}
 use Rattle.laws.specs.Lists.{All}
 use Rattle.laws.specs.Alls.{all-replicate}
 use Rattle.register.specs.declared.Register.{Register}

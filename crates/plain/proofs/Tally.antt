@@ -1,15 +1,13 @@
 -- After every list of calls each position's figures are the pieces that name it, by manner, and its netted quantity is their sum with what is open.
-use Prim.Native.Nat.{ℕ, zero, suc, _+_, _-_, _*_, _≤_, _<_}
+use Prim.Native.Nat.{ℕ, zero, suc, _+_, _-_, _≤_, _<_}
 use native.Mathlib.Omega.{arith}
-use native.Mathlib.Nat.{add-zero}
-use mathlib.Core.Path.{_≡_, refl, ap, sym, _∙_, subst}
+use mathlib.Core.Path.{_≡_, refl, ap, sym, _∙_}
 use mathlib.Core.List.{List, [], _∷_, _++_}
-use mathlib.Core.Bool.{Bool, true, false}
 use lib.ListN.{length, getD, length-append, List·getD-append, List·getD-eq-default}
 use lib.Seq.{getD-append-add}
 use lib.Dec.{ltb, eqb}
 use borrow.Author.Tests.{ltb-true, ltb-false}
-use Rattle.laws.specs.Lists.{All, only, sum}
+use Rattle.laws.specs.Lists.{All, only}
 use Rattle.laws.specs.Asked.{Said, passed, failed, ask}
 use Rattle.laws.specs.Listed.{sum-append}
 use Rattle.laws.specs.Sums.{only-zero}
@@ -21,14 +19,14 @@ use Rattle.plain.specs.declared.Position.{Position}
 use Rattle.plain.specs.declared.Piece.{Piece}
 use Rattle.plain.specs.declared.Manner.{Manner}
 use Rattle.plain.specs.declared.Manner.the-variants.{Delivered, BoughtIn, Cash}
-use Rattle.plain.specs.Book.{Book, new, noPosition, positionOf}
+use Rattle.plain.specs.Book.{Book, new, noPosition}
 use Rattle.plain.specs.Netting.{keys, netted}
-use Rattle.plain.specs.Dealing.{mannerNumber, names, taken, takenBy, lowered, lowering}
-use Rattle.plain.specs.Calls.{Call, handsOut, amount, done}
+use Rattle.plain.specs.Dealing.{mannerNumber, names, takenBy, lowered, lowering}
+use Rattle.plain.specs.Calls.{Call, handsOut, done}
 use Rattle.plain.specs.Refusals.{refusal}
-use Rattle.plain.specs.Histories.{eventOf, next, pieces, quantity, run, handed}
-use Rattle.plain.proofs.Accepted.{Within, next-keeps}
-use Rattle.plain.proofs.Invariants.{Whole, Deals, DueLong}
+use Rattle.plain.specs.Histories.{eventOf, next, pieces, run, handed}
+use Rattle.plain.proofs.Accepted.{next-keeps}
+use Rattle.plain.proofs.Invariants.{Whole, Deals}
 use Rattle.plain.proofs.Netted.{New, netted-new}
 use Rattle.plain.proofs.Discharged.{length-lowering, lowering-at, taken-past, taken-by}
 use Rattle.plain.proofs.Steps.{Step, discharge, close, stay}

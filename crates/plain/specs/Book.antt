@@ -1,7 +1,7 @@
 -- Document 01, 'The plain book': what the plain book keeps, and the book as it opens.
-use Prim.Native.Nat.{ℕ, _-_, _+_, _≤_}
-use mathlib.Core.List.{List, [], _∷_}
-use mathlib.Core.Bool.{Bool, true, false}
+use Prim.Native.Nat.{ℕ, _-_}
+use mathlib.Core.List.{List, []}
+use mathlib.Core.Bool.{Bool, false}
 use lib.ListN.{length, getD, replicate}
 use Rattle.laws.specs.Asked.{within}
 use Rattle.register.specs.declared.Register.{Register}

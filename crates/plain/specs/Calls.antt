@@ -1,7 +1,6 @@
 -- Document 01, 'The plain book': what each of the nine calls does where it is accepted.
 use Prim.Native.Nat.{ℕ, suc, _+_, _-_}
 use mathlib.Core.List.{List, [], _∷_, _++_, map}
-use mathlib.Core.Bool.{Bool, true, false}
 use lib.ListN.{length, set}
 use Rattle.laws.specs.Lists.{sum, number}
 use Rattle.rules.specs.Prices.{ceiling}
@@ -11,12 +10,10 @@ use Rattle.events.specs.declared.Offer.{Offer}
 use Rattle.events.specs.declared.Confirm.{Confirm}
 use Rattle.events.specs.declared.Event.{Event}
 use Rattle.events.specs.declared.Event.the-variants as event
-use Rattle.plain.specs.declared.Position.{Position}
 use Rattle.plain.specs.declared.Piece.{Piece}
 use Rattle.plain.specs.declared.Award.{Award}
 use Rattle.plain.specs.declared.Manner.{Manner}
 use Rattle.plain.specs.declared.Manner.the-variants.{Delivered, BoughtIn, Cash}
-use Rattle.plain.specs.declared.Ledger.{Ledger}
 use Rattle.plain.specs.Book.{Book, Auction, noAuction, positionOf, awardOf, classOf, latestOf}
 use Rattle.plain.specs.Netting.{keys, netted}
 use Rattle.plain.specs.Dealing.{takers, dealTo, lowering}

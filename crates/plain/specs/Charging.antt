@@ -1,7 +1,7 @@
 -- Document 01, 'Auction', 'Cash settlement' and 'Close': what each step charges. A charge goes from its payer to its payee.
 use Prim.Native.Nat.{ℕ, _+_, _*_}
 use mathlib.Core.List.{List, [], _∷_, _++_, map}
-use mathlib.Core.Bool.{Bool, true, false, not, _&&_}
+use mathlib.Core.Bool.{not, _&&_}
 use lib.ListN.{getD, set}
 use lib.Dec.{ltb, eqb}
 use Rattle.laws.specs.Lists.{only, keep, sum, each}

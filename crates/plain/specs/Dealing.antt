@@ -1,7 +1,7 @@
 -- Document 01, 'Discharge and pieces': how a discharge is dealt out to the due longs of its security.
-use Prim.Native.Nat.{ℕ, zero, suc, _+_, _-_, min}
-use mathlib.Core.List.{List, [], _∷_, map}
-use mathlib.Core.Bool.{Bool, true, false, not, _&&_}
+use Prim.Native.Nat.{ℕ, suc, _+_, _-_, min}
+use mathlib.Core.List.{List, [], _∷_}
+use mathlib.Core.Bool.{Bool, not, _&&_}
 use lib.Dec.{ltb, leb, eqb}
 use Rattle.laws.specs.Lists.{only, keep, sum, each, range, number}
 use Rattle.plain.specs.declared.Position.{Position}

@@ -1,7 +1,6 @@
 -- Document 01, 'The plain book': calls one after the other. "A refused call changes nothing."
-use Prim.Native.Nat.{ℕ, zero, suc, _+_}
+use Prim.Native.Nat.{ℕ, suc, _+_}
 use mathlib.Core.List.{List, [], _∷_, _++_}
-use mathlib.Core.Bool.{Bool, true, false}
 use lib.ListN.{getD}
 use lib.IntN.{ℤ, subℕ}
 use Rattle.laws.specs.Refusals.{accepted}

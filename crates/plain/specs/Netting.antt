@@ -1,5 +1,5 @@
 -- Document 01, 'Trades and netting': the positions that a day's trades make.
-use Prim.Native.Nat.{ℕ, zero, suc, _+_, _-_, max}
+use Prim.Native.Nat.{ℕ, _+_, _-_, max}
 use mathlib.Core.List.{List, [], _∷_}
 use mathlib.Core.Bool.{Bool, true, false, _&&_}
 use lib.Dec.{ltb, eqb}

@@ -1,7 +1,7 @@
 -- Document 01, 'Why a call is turned down', 8 to 26: the reasons of each call, in the order of the paper's list.
 use Prim.Native.Nat.{ℕ, _+_, _-_}
 use mathlib.Core.List.{List, [], _∷_}
-use mathlib.Core.Bool.{Bool, true, false, not, _&&_, _||_}
+use mathlib.Core.Bool.{Bool, not, _&&_, _||_}
 use lib.ListN.{length}
 use lib.Dec.{ltb, leb, eqb}
 use Rattle.laws.specs.Asked.{within}
@@ -10,7 +10,6 @@ use Rattle.laws.specs.Refusals.{Reason, _⇒_, first}
 use Rattle.rules.specs.Windows.{stepOn, stepKind}
 use Rattle.rules.specs.declared.Step.{Step}
 use Rattle.rules.specs.declared.Step.the-variants as step
-use Rattle.events.specs.declared.Event.{Event}
 use Rattle.events.specs.declared.Event.the-variants as event
 use Rattle.plain.specs.declared.Position.{Position}
 use Rattle.plain.specs.Book.{Book, there, positionOf, awardOf, classOf, latestOf}

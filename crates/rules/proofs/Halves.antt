@@ -1,5 +1,5 @@
 -- A quotient rounded half up, from the quotient rounded down and what is left over.
-use Prim.Native.Nat.{ℕ, zero, suc, _+_, _*_, _/_, _%_, _≤_, _<_}
+use Prim.Native.Nat.{ℕ, _+_, _*_, _/_, _%_, _≤_, _<_}
 use native.Mathlib.Nat.{div-eq-of-lt-le, div-add-mod', div-zero, mod-lt, le-mul-of-pos-right, mul-left-comm, add-mul}
 use native.Mathlib.Omega.{arith}
 use mathlib.Core.Path.{_≡_}

@@ -1,7 +1,7 @@
 -- Document 01, 'Register and day': "Class 1 is a share under the short selling regulation, 2 another security, 3 fixed income."
 use Prim.Native.Nat.{ℕ, _≤_, _<_}
 use native.Mathlib.Omega.{arith}
-use mathlib.Core.Path.{_≡_, refl}
+use mathlib.Core.Path.{_≡_}
 use mathlib.Core.Logic.{_≢_}
 use mathlib.Core.Bool.{cond}
 use borrow.Author.Tests.{eq-eqb, ne-eqb, eqb-false}

@@ -1,17 +1,16 @@
 -- The program reads no more than 65,536 bytes, and prints what the whole input would make it print: the largest register and file have 35,238.
-use Prim.Native.Nat.{ℕ, zero, suc, _+_, _-_, _*_, _≤_, _<_}
+use Prim.Native.Nat.{ℕ, _+_, _-_, _*_, _≤_, _<_}
 use native.Mathlib.Omega.{arith}
-use mathlib.Core.Path.{_≡_, refl, ap, ap₂, sym, _∙_}
-use mathlib.Core.List.{List, [], _∷_}
-use mathlib.Core.Bool.{Bool, true, false, not}
+use mathlib.Core.Path.{_≡_, ap, ap₂, sym, _∙_}
+use mathlib.Core.List.{List}
+use mathlib.Core.Bool.{true, false, not}
 use lib.Dec.{eqb, ltb}
-use lib.ListN.{length, getD, take, drop, length-drop, length-take}
+use lib.ListN.{length, getD, take, length-drop}
 use lib.Seq.{getD-take, take-take, take-all, length-take-le}
-use borrow.Author.Tests.{lt-ltb, ne-eqb, ltb-true, ltb-false}
+use borrow.Author.Tests.{ne-eqb, ltb-true, ltb-false}
 use Rattle.laws.specs.Asked.{Said, passed, failed, ask, within, within-high}
-use Rattle.laws.specs.Refusals.{_⇒_, first, accepted-not}
+use Rattle.laws.specs.Refusals.{accepted-not}
 use Rattle.laws.specs.Words.{word16, word16At}
-use Rattle.laws.specs.WordLaws.{nonzero}
 use Rattle.register.specs.Register.{registerRead, rightSize}
 use Rattle.register.specs.Register as register
 use Rattle.events.specs.File.{refusal, count, size}

@@ -2,7 +2,7 @@
 use lib.IntN.{pos}
 use Rattle.book.specs.Reading.{noAccount}
 use native.Mathlib.Omega.{arith}
-use mathlib.Core.Path.{_≡_, sym, _∙_}
+use mathlib.Core.Path.{sym, _∙_}
 use Rattle.laws.specs.Refusals.{accepted-zero, accepted-not}
 use Rattle.plain.specs.Histories as histories
 use Rattle.book.specs.View.{view}

@@ -1,6 +1,5 @@
 -- `book::position` meets its contract.
 use native.Mathlib.Omega.{arith}
-use mathlib.Core.Path.{_≡_}
 use Rattle.laws.specs.Asked.{fails, passes, within-low, within-high}
 use Rattle.plain.specs.Book.{noPosition}
 use Rattle.tables.specs.Tables.{positions}

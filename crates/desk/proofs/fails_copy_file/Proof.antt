@@ -3,10 +3,6 @@ use mathlib.Core.Path.{sym, ap, _∙_}
 use Rattle.desk.proofs.Packing.{answered, written-packed}
 use Rattle.desk.proofs.fails_copy_file.Statement.{statement}
 use Rattle.desk.proofs.fails_copy_file.Tie as tie
-use Rattle.desk.proofs.fails_copy_file.Reads as reads
-use Rattle.desk.proofs.fails_copy_file.Lts as lts
-use Rattle.desk.proofs.packed.Reads as packed-reads
-use Rattle.events.proofs.copy_file.Reads as copy-file-reads
 
 -- src/lib.rt:130:9
 copy-file-requires : tie.Need-copy-file-requires

@@ -1,10 +1,6 @@
 use borrow.Author.Needs.{needs}
 use Rattle.desk.proofs.fails_date_to_day.Statement.{statement}
 use Rattle.desk.proofs.fails_date_to_day.Tie as tie
-use Rattle.desk.proofs.fails_date_to_day.Reads as reads
-use Rattle.desk.proofs.fails_date_to_day.Lts as lts
-use Rattle.calendar.proofs.date_to_day.Reads as date-to-day-reads
-use Rattle.desk.proofs.packed.Reads as packed-reads
 
 -- src/lib.rt:47:9
 date-to-day-requires : tie.Need-date-to-day-requires

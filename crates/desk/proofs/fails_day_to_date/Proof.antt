@@ -1,10 +1,6 @@
 use borrow.Author.Needs.{needs}
 use Rattle.desk.proofs.fails_day_to_date.Statement.{statement}
 use Rattle.desk.proofs.fails_day_to_date.Tie as tie
-use Rattle.desk.proofs.fails_day_to_date.Reads as reads
-use Rattle.desk.proofs.fails_day_to_date.Lts as lts
-use Rattle.calendar.proofs.day_to_date.Reads as day-to-date-reads
-use Rattle.desk.proofs.packed.Reads as packed-reads
 
 -- src/lib.rt:35:9
 day-to-date-requires : tie.Need-day-to-date-requires

@@ -3,11 +3,6 @@ use mathlib.Core.Path.{sym, _∙_}
 use Rattle.desk.proofs.Packing.{refused-packed}
 use Rattle.desk.proofs.fails_file.Statement.{statement}
 use Rattle.desk.proofs.fails_file.Tie as tie
-use Rattle.desk.proofs.fails_file.Reads as reads
-use Rattle.desk.proofs.fails_file.Lts as lts
-use Rattle.desk.proofs.packed.Reads as packed-reads
-use Rattle.events.proofs.event_count.Reads as event-count-reads
-use Rattle.events.proofs.file_refusal.Reads as file-refusal-reads
 
 -- src/lib.rt:118:9
 file-refusal-requires : tie.Need-file-refusal-requires

@@ -1,5 +1,4 @@
 -- `desk::fails_last_lines` meets its contract.
-use native.Mathlib.Omega.{arith}
 use denote.Ref.{now}
 use Rattle.desk.proofs.Lines.{refused-lines, accepted-lines}
 use borrow.Author.Needs.{needs}

@@ -1,10 +1,6 @@
 use borrow.Author.Needs.{needs}
 use Rattle.desk.proofs.fails_register.Statement.{statement}
 use Rattle.desk.proofs.fails_register.Tie as tie
-use Rattle.desk.proofs.fails_register.Reads as reads
-use Rattle.desk.proofs.fails_register.Lts as lts
-use Rattle.desk.proofs.packed.Reads as packed-reads
-use Rattle.register.proofs.read_register.Reads as read-register-reads
 
 -- src/lib.rt:25:9
 read-register-requires : tie.Need-read-register-requires

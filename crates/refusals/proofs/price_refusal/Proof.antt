@@ -2,7 +2,7 @@
 use Rattle.laws.specs.Asked.{fails, passes}
 use Rattle.laws.specs.Refusals.{here, past}
 use Rattle.refusals.specs.Entering.{priceReasons, priceRefusal}
-use mathlib.Core.Path.{_≡_, refl, ap}
+use mathlib.Core.Path.{refl, ap}
 use mathlib.Core.Bool.{not}
 use borrow.Author.Needs.{needs}
 use Rattle.refusals.proofs.price_refusal.Statement.{statement}
