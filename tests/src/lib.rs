@@ -10,6 +10,7 @@ pub mod player;
 pub mod random;
 pub mod refusal;
 pub mod register;
+pub mod scaling;
 pub mod text;
 pub mod transcript;
 pub mod windows;

@@ -1,8 +1,11 @@
-//! Times the player and the second implementation on three loads. Both are programs of their own with the same input on
-//! standard input; with the argument --play this program is the second one.
+//! Times the player and the second implementation on three loads, and on each kind of event by the number of positions.
+//! Both are programs of their own with the same input on standard input; with the argument --play this program is the
+//! second one.
 
 use second::random::Random;
+use second::scaling::{Kind, Pair, KINDS, MOST_BEFORE_TRADES, POSITIONS};
 use second::{histories, player, transcript};
+use std::fmt::Display;
 use std::io::{self, Read, Write};
 use std::process::{Command, ExitCode};
 use std::time::{Duration, Instant};
@@ -32,6 +35,12 @@ fn play() -> io::Result<()> {
 }
 
 fn measure() -> io::Result<()> {
+    measure_loads()?;
+    println!();
+    measure_kinds()
+}
+
+fn measure_loads() -> io::Result<()> {
     let random = &mut Random::new(1, "benchmark");
     let loads = [
         ("2,048 mixed events", histories::mixed(random)),
@@ -65,24 +74,116 @@ fn ratio(player: Duration, second: Duration) -> f64 {
     player.as_secs_f64() / second.as_secs_f64()
 }
 
-/// The median times of the player and the second implementation, which take turns.
+/// The entries of the table take turns, so that other work on the machine, which comes and goes, falls on all of them.
+fn measure_kinds() -> io::Result<()> {
+    let mut rows = KINDS.into_iter().map(Row::new).collect::<io::Result<Vec<Row>>>()?;
+    for round in 0..RUNS {
+        for row in &mut rows {
+            row.entries.iter_mut().try_for_each(|entry| entry.run(round))?;
+        }
+    }
+    println!("nanoseconds an event, by the number of positions");
+    println!("{:20}{:>30}{:>33}", "", "player", "second");
+    println!("{:20}{}   {}", "positions", columns(&POSITIONS), columns(&POSITIONS));
+    for row in &rows {
+        let [player, second] = [0, 1].map(|program| columns(&row.times(program, &rows)));
+        println!("{:20}{player}   {second}", row.kind.name);
+    }
+    println!("trade: {MOST_BEFORE_TRADES} positions in the last column, since a book takes no more than 512 trades");
+    println!("attempt and award: the two together, since an auction has one of each");
+    Ok(())
+}
+
+fn columns<T: Display>(numbers: &[T]) -> String {
+    numbers.iter().map(|number| format!("{number:>10.0}")).collect()
+}
+
+struct Row {
+    kind: Kind,
+    entries: Vec<Entry>,
+}
+
+impl Row {
+    fn new(kind: Kind) -> io::Result<Row> {
+        let entry = |positions| Entry::new(kind.name, (kind.pair)(positions));
+        let entries = POSITIONS.into_iter().map(entry).collect::<io::Result<_>>()?;
+        Ok(Row { kind, entries })
+    }
+
+    /// The nanoseconds of one event, by the number of positions.
+    fn times(&self, program: usize, rows: &[Row]) -> Vec<f64> {
+        let differences = self.entries.iter().map(|entry| entry.difference(program));
+        match rows.iter().find(|row| Some(row.kind.name) == self.kind.instead) {
+            None => differences.collect(),
+            Some(other) => differences.zip(other.times(program, rows)).map(|(more, time)| more + time).collect(),
+        }
+    }
+}
+
+/// A kind of event at a number of positions.
+struct Entry {
+    inputs: [Vec<u8>; 2],
+    /// How many events of the kind the second input has more.
+    events: usize,
+    times: Times<2>,
+}
+
+impl Entry {
+    /// The inputs, once the player has accepted and refused what it is meant to.
+    fn new(name: &str, Pair { inputs, events }: Pair) -> io::Result<Entry> {
+        for input in &inputs {
+            let transcript = player::output_of(&mut Command::new(player::path()), &input.bytes())?;
+            input.check(&transcript).map_err(|fault| io::Error::other(format!("{name}: {fault}")))?;
+        }
+        Ok(Entry { inputs: inputs.map(|input| input.bytes()), events, times: Times::default() })
+    }
+
+    /// Runs both programs on both inputs; the fewer the events, the more often.
+    fn run(&mut self, round: usize) -> io::Result<()> {
+        let turns = (600 / self.events).clamp(1, 10);
+        (0..turns).try_for_each(|turn| run(&self.inputs, round + turn, &mut self.times))
+    }
+
+    /// By how many nanoseconds an event the second input takes longer: the median of the quarter of the runs in which
+    /// the two took least.
+    fn difference(&self, program: usize) -> f64 {
+        let [fewer, more] = &self.times[program];
+        let mut pairs: Vec<(&Duration, &Duration)> = fewer.iter().zip(more).collect();
+        pairs.sort_by_key(|&(fewer, more)| *fewer + *more);
+        pairs.truncate(pairs.len() / 4);
+        pairs.sort_by_key(|(fewer, more)| more.as_nanos() as i64 - fewer.as_nanos() as i64);
+        let (fewer, more) = pairs[pairs.len() / 2];
+        (more.as_nanos() as f64 - fewer.as_nanos() as f64) / self.events as f64
+    }
+}
+
+/// The times of the player and the second implementation on each input, run by run.
+type Times<const N: usize> = [[Vec<Duration>; N]; 2];
+
+/// The median times of the player and the second implementation.
 fn medians(input: &[u8]) -> io::Result<[Duration; 2]> {
+    let mut times = Times::<1>::default();
+    (0..RUNS).try_for_each(|round| run(&[input], round, &mut times))?;
+    Ok(times.map(|[mut times]| {
+        times.sort();
+        times[RUNS / 2]
+    }))
+}
+
+/// Runs the player and the second implementation on each input. Each round begins with the next input.
+fn run<T: AsRef<[u8]>, const N: usize>(inputs: &[T; N], round: usize, times: &mut Times<N>) -> io::Result<()> {
     let mut programs = [Command::new(player::path()), Command::new(std::env::current_exe()?)];
     programs[1].arg("--play");
-    let mut times = [Vec::new(), Vec::new()];
-    for _ in 0..RUNS {
+    for at in (0..N).map(|at| (round + at) % N) {
         let mut outputs = Vec::new();
-        for (program, times) in programs.iter_mut().zip(&mut times) {
+        for (program, times) in programs.iter_mut().zip(times.iter_mut()) {
             let start = Instant::now();
-            outputs.push(player::output_of(program, input)?);
-            times.push(start.elapsed());
+            outputs.push(player::output_of(program, inputs[at].as_ref())?);
+            times[at].push(start.elapsed());
         }
         if outputs[0] != outputs[1] {
             return Err(io::Error::other("the player and the second implementation print different lines"));
         }
     }
-    Ok(times.map(|mut times| {
-        times.sort();
-        times[RUNS / 2]
-    }))
+    Ok(())
 }
