@@ -9,9 +9,7 @@ use Rattle.events.specs.declared.Offer.{Offer}
 use Rattle.plain.specs.declared.Award.{Award}
 use Rattle.plain.specs.Auction.{byPrice, awarded, confirmedAward}
 use Rattle.tables.specs.declared.Auction.{Auction}
-use Rattle.tables.specs.declared.Awards.{Awards}
-use Rattle.tables.specs.Tables.{AuctionFits, AwardsFit, awards}
-use Rattle.auction.specs.declared.Awarding.{Awarding}
+use Rattle.tables.specs.Tables.{Awards, AuctionFits, AwardsFit, awards}
 
 -- "Each offer taken makes one award"
 abbrev pub awardFor : Offer → ℕ → Award
@@ -34,10 +32,10 @@ pub record Awardable (auction : Auction) (before : Awards) : Type 0 where
 abbrev pub awardedIn : Auction → ℕ → List Award
 awardedIn auction unsettled = awarded unsettled (byPrice [] (take (auction .count) (auction .offers)))
 
-pub record Awarded (auction : Auction) (unsettled : ℕ) (before : Awards) (r : Awarding) : Type 0 where
-  pub added : awards (r .awards) ≡ awards before ++ awardedIn auction unsettled
-  pub total : r .total ≡ sum (λ x. x .quantity) (awardedIn auction unsettled)
-  pub fit : AwardsFit (r .awards)
+pub record Awarded (auction : Auction) (unsettled : ℕ) (before after : Awards) (awardedUnits : ℕ) : Type 0 where
+  pub added : awards after ≡ awards before ++ awardedIn auction unsettled
+  pub total : awardedUnits ≡ sum (λ x. x .quantity) (awardedIn auction unsettled)
+  pub fit : AwardsFit after
 
 -- an offer is of 1,000,000 units at most, and so is an award
 pub record Countable (today : Awards) : Type 0 where

@@ -1,9 +1,1 @@
 pub mod Returns
-pub mod Answers
-pub mod Entered
-pub mod Fresh
-pub mod Found
-pub mod Auctions
-pub mod ClosingDay
-pub mod Discharging
-pub mod Stepping

@@ -1,54 +1,132 @@
--- The two ways in which a call returns: it is refused and the book is as it was, or it is done as the plain book does it.
-use mathlib.Core.Path.{_≡_, ap, sym, _∙_, subst}
-use mathlib.Core.Logic.{_≢_}
+-- What a call in place leaves of a book's parts is what the call returns of the book as one value, on a sheet of any length.
+use Prim.Native.Nat.{ℕ, _≤_, _<_}
+use native.Mathlib.Omega.{arith}
+use mathlib.Core.Path.{_≡_, refl, ap, sym, _∙_, subst}
 use mathlib.Core.List.{List, []}
-use Rattle.laws.specs.Refusals.{accepted-zero, accepted-not}
+use mathlib.Core.Bool.{true, false, true≢false}
+use lib.Dec.{ltb}
+use borrow.Author.Tests.{lt-ltb, le-ltb}
+use Rattle.events.specs.declared.Event.{Event}
+use Rattle.events.specs.declared.Event.the-variants as event
 use Rattle.plain.specs.declared.Piece.{Piece}
+use Rattle.plain.specs.declared.Manner.{Manner}
 use Rattle.plain.specs.declared.Outcome.{Outcome}
+use Rattle.plain.specs.declared.Outcome.the-variants as outcome
 use Rattle.plain.specs.Book as plain
-use Rattle.plain.specs.Calls.{Call, handsOut, amount, done}
-use Rattle.plain.specs.Refusals.{refusal}
-use Rattle.plain.specs.Histories.{eventOf, next, pieces, quantity}
-use Rattle.plain.proofs.Sound.{Sound, done-sound, sound-dealt}
-use Rattle.plain.proofs.Accounts.{Balanced, done-balanced}
-use Rattle.plain.proofs.Bound.{Bound, done-bound}
-use Rattle.plain.proofs.Claim.{bounding, accountable}
+use Rattle.plain.specs.Calls.{Call, call}
+use Rattle.plain.specs.Refusals.{reasons, refusal}
+use Rattle.tables.specs.Tables.{pieces}
+use Rattle.tables.specs.Lent.{pieceTable}
+use Rattle.pieces.proofs.Cells.{length-pieces}
+use Rattle.calls.specs.View.{keptOf, Called, CalledOn}
+use Rattle.calls.proofs.Returns.{refused}
+use Rattle.calls.proofs.Stepping as calls
+use Rattle.calls.proofs.Stepping.{isDischarge, any-sheet}
 use Rattle.book.specs.declared.Book.{Book}
-use Rattle.book.specs.View.{view, Fits, Valid, numberOf, quantityOf, Returned}
+use Rattle.book.specs.declared.Answered.{Answered}
+use Rattle.book.specs.declared.Discharged.{Discharged}
+use Rattle.book.specs.View.{numbersIn, view, Valid, Returned}
+use Rattle.book.specs.Stepping.{WithoutPieces, Stepped}
 
--- a refused call
-pub refused : (b : Book) (c : Call) (after : Book) (o : Outcome) (xs : List Piece) → Valid b → refusal (view b) c ≢ 0 → numberOf o ≡ refusal (view b) c → quantityOf o ≡ 0 → xs ≡ [] → after ≡ b → Returned b c after o xs
-unfolding next pieces quantity
-refused b c after o xs v e number none empty same =
-    record {
-      number = number;
-      quantity = none ∙ sym (accepted-not (refusal (view b) c) (amount (view b) (eventOf c)) 0 e);
-      pieces = empty ∙ sym (accepted-not (refusal (view b) c) (handsOut (view b) (eventOf c)) [] e);
-      book = ap view same ∙ sym (accepted-not (refusal (view b) c) (done (view b) (eventOf c)) (view b) e);
-      valid = subst Valid (sym same) v;
-      kept = λ n. same;
-    }
+-- a book is its core and its numbers
+same-book : (b after : Book) → (after .core ≡ b .core) × (numbersIn after ≡ numbersIn b) → after ≡ b
+same-book b after e i = record { core = e .0 i; rows = e .1 i .rows; trades = e .1 i .trades; awards = e .1 i .awards; counts = e .1 i .counts }
 
--- what the plain book keeps, the machine's book keeps where it stands for the plain book's next
-pub valid-done : (b : Book) (c : Call) (after : Book) → Valid b → refusal (view b) c ≡ 0 → view after ≡ done (view b) (eventOf c) → Fits after → Valid after
-unfolding view
-valid-done b c after v e same fits =
-    record {
-      fits = fits;
-      sound = subst Sound (sym same) (done-sound (view b) c e (v .sound));
-      balanced = subst Balanced (sym (ap (λ (x : plain.Book). x .ledger) same)) (done-balanced (view b) (eventOf c) (accountable (view b) (v .sound)) (v .fits .places) (v .balanced));
-      bound = subst Bound (sym same) (done-bound (view b) c e (bounding (view b) (v .sound)) (sound-dealt (view b) (v .sound) c e) (v .bound));
-    }
+-- what a call returns of the book is what it leaves of the parts, and the other way round
+module _ (b after : Book) (o : Outcome) (xs : List Piece) where
+  pub returned : (c : Call) → Called (b .core) (numbersIn b) c (after .core) (numbersIn after) o xs → Returned b c after o xs
+  unfolding view
+  returned c d =
+      let r = d .returned in
+      record {
+        outcome = r .outcome;
+        pieces = r .pieces;
+        book = r .book;
+        valid = record { held = record { valid = r .valid; lent = d .lent } };
+        kept = λ n. same-book b after (d .kept n);
+      }
 
--- an accepted call
-pub taken : (b : Book) (c : Call) (after : Book) (o : Outcome) (xs : List Piece) → Valid b → refusal (view b) c ≡ 0 → numberOf o ≡ 0 → quantityOf o ≡ amount (view b) (eventOf c) → xs ≡ handsOut (view b) (eventOf c) → view after ≡ done (view b) (eventOf c) → Fits after → Returned b c after o xs
-unfolding next pieces quantity
-taken b c after o xs v e number much given same fits =
-    record {
-      number = number ∙ sym e;
-      quantity = much ∙ sym (accepted-zero (refusal (view b) c) (amount (view b) (eventOf c)) 0 e);
-      pieces = given ∙ sym (accepted-zero (refusal (view b) c) (handsOut (view b) (eventOf c)) [] e);
-      book = same ∙ sym (accepted-zero (refusal (view b) c) (done (view b) (eventOf c)) (view b) e);
-      valid = valid-done b c after v e same fits;
-      kept = λ n. absurd (n e);
-    }
+  pub called : (c : Call) → Returned b c after o xs → Called (b .core) (numbersIn b) c (after .core) (numbersIn after) o xs
+  unfolding view
+  called c r =
+      record {
+        returned =
+            record {
+              outcome = r .outcome;
+              pieces = r .pieces;
+              book = r .book;
+              valid = r .valid .held .valid;
+              kept = λ n. ap (λ (x : Book). keptOf (x .core) (numbersIn x)) (r .kept n);
+            };
+        lent = r .valid .held .lent;
+        kept = λ n. (ap (λ (x : Book). x .core) (r .kept n), ap numbersIn (r .kept n));
+      }
+
+  -- a call that is refused alike with sheets of two lengths returns alike
+  pub other-sheet : (e : Event) (m n : ℕ) → refusal (view b) (call e m) ≡ refusal (view b) (call e n) → Returned b (call e m) after o xs → Returned b (call e n) after o xs
+  unfolding view
+  other-sheet e m n same r =
+      let d = called (call e m) r in
+      returned (call e n)
+      (record {
+        returned = calls.other-sheet (keptOf (b .core) (numbersIn b)) e m n same (keptOf (after .core) (numbersIn after)) o xs (d .returned);
+        lent = d .lent;
+        kept = λ k. d .kept (λ z. k (sym same ∙ z));
+      })
+
+-- a sheet of 1,024 places is as good as a longer one
+pub long-sheet : (b : plain.Book) (e : Event) (n : ℕ) → ltb n 1024 ≡ false → refusal b (call e 1024) ≡ refusal b (call e n)
+unfolding refusal reasons
+long-sheet b (event.Trade t) n h = refl
+long-sheet b (event.Price p) n h = refl
+long-sheet b (event.Delivery d) n h = rw h
+long-sheet b (event.Attempt a) n h = refl
+long-sheet b (event.Offer o) n h = refl
+long-sheet b (event.Award a) n h = refl
+long-sheet b (event.Confirm c) n h = rw h
+long-sheet b (event.Cash c) n h = rw h
+long-sheet b event.Close n h = refl
+
+-- 8. "The sheet has under 1,024 places", before any other reason
+short-sheet : (b : plain.Book) (e : Event) (n : ℕ) → isDischarge e ≡ true → ltb n 1024 ≡ true → refusal b (call e n) ≡ 8
+unfolding refusal reasons
+short-sheet b (event.Trade t) n d h = absurd (true≢false (sym d))
+short-sheet b (event.Price p) n d h = absurd (true≢false (sym d))
+short-sheet b (event.Delivery x) n d h = rw h
+short-sheet b (event.Attempt a) n d h = absurd (true≢false (sym d))
+short-sheet b (event.Offer o) n d h = absurd (true≢false (sym d))
+short-sheet b (event.Award a) n d h = absurd (true≢false (sym d))
+short-sheet b (event.Confirm c) n d h = rw h
+short-sheet b (event.Cash c) n d h = rw h
+short-sheet b event.Close n d h = absurd (true≢false (sym d))
+
+module _ (b : Book) (e : Event) (n : ℕ) where
+  -- a discharge on a sheet that is long enough, by the call in place on one of 1,024 places
+  pub discharged : 1024 ≤ n → (after : Book) (o : Outcome) (m : Manner) (sheet left : List ℕ) (made : ℕ)
+      → CalledOn (b .core) (numbersIn b) (call e 1024) m sheet (after .core) (numbersIn after) left o made
+      → Stepped b e n (record { book = after; outcome = o; pieces = pieceTable m left made })
+  unfolding pieces
+  discharged long after o m sheet left made d =
+      record {
+        returned = other-sheet b after o _ e 1024 n (long-sheet (view b) e n (le-ltb n 1024 long)) (returned b after o _ (call e 1024) (d .called));
+        pieces-fit = record { places = length-pieces m left; held = d .few };
+      }
+
+  -- an answer without pieces: of a call that has no sheet, or of a discharge on one that is too small
+  without : (a : Answered) (r : Discharged) → Returned b (call e n) (a .book) (a .outcome) [] → WithoutPieces a r → Stepped b e n r
+  without a r h w = record { returned = rw (w .book, w .outcome, w .pieces) h; pieces-fit = w .pieces-fit }
+
+  pub too-small : isDischarge e ≡ true → n < 1024 → (r : Discharged) → Valid b → WithoutPieces (record { book = b; outcome = outcome.Refused 8 }) r → Stepped b e n r
+  unfolding view
+  too-small d small r v =
+      without _ r
+      (returned b b (outcome.Refused 8) [] (call e n)
+      (refused (b .core) (numbersIn b) (call e n) 8 (v .held) (short-sheet (view b) e n d (lt-ltb n 1024 small)) (omega arith) .called))
+
+  -- the event x, which is e
+  module _ (x : Event) (is : x ≡ e) (r : Discharged) where
+    pub with-pieces : Stepped b e n r → Stepped b x n r
+    with-pieces = subst (λ (y : Event). Stepped b y n r) (sym is)
+
+    pub without-pieces : (a : Answered) → Returned b (call e 0) (a .book) (a .outcome) [] → WithoutPieces a r → isDischarge e ≡ false → Stepped b x n r
+    without-pieces a h w bare = with-pieces (without a r (other-sheet b (a .book) (a .outcome) [] e 0 n (any-sheet (view b) e 0 n bare) h) w)

@@ -2,9 +2,7 @@
 use Prim.Native.Nat.{ℕ}
 use mathlib.Core.Path.{_≡_}
 use mathlib.Core.List.{[]}
-use mathlib.Core.Bool.{Bool, true, false}
 use Rattle.events.specs.declared.Event.{Event}
-use Rattle.events.specs.declared.Event.the-variants as event
 use Rattle.plain.specs.Calls.{call}
 use Rattle.tables.specs.Tables as table
 use Rattle.book.specs.declared.Book.{Book}
@@ -23,15 +21,3 @@ pub record WithoutPieces (a : Answered) (r : Discharged) : Type 0 where
 pub record Stepped (b : Book) (e : Event) (sheet : ℕ) (r : Discharged) : Type 0 where
   pub returned : Returned b (call e sheet) (r .book) (r .outcome) (table.pieces (r .pieces))
   pub pieces-fit : table.PiecesFit (r .pieces)
-
--- "A discharge (delivery, confirm, cash)": the calls that have a sheet
-abbrev pub isDischarge : Event → Bool
-isDischarge (event.Trade t) = false
-isDischarge (event.Price p) = false
-isDischarge (event.Delivery d) = true
-isDischarge (event.Attempt a) = false
-isDischarge (event.Offer o) = false
-isDischarge (event.Award a) = false
-isDischarge (event.Confirm c) = true
-isDischarge (event.Cash c) = true
-isDischarge event.Close = false

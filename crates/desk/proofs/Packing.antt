@@ -8,9 +8,7 @@ use Rattle.laws.specs.Refusals.{accepted, accepted-zero, accepted-not}
 use Rattle.events.specs.declared.Written.{Written}
 use Rattle.events.specs.File.{answer, numberOf, quantityOf, eventsOf}
 use Rattle.plain.specs.declared.Outcome.{Outcome}
-use Rattle.plain.specs.Book as plain
-use Rattle.book.specs.View.{view}
-use Rattle.book.specs.View as outcome
+use Rattle.kept.specs.View as outcome
 use Rattle.replay.specs.Replay.{LastAnswered}
 use Rattle.transcript.specs.declared.Started.{Started}
 use Rattle.transcript.specs.Transcript.{inputRefusal, opened, eventsIn}
@@ -39,12 +37,12 @@ module _ (input : List ℕ) (closes sheet : ℕ) (r : Started) (s : StartedOn in
       let n : inputRefusal input ≢ 0 = λ z. h (s .number ∙ z) in
       ap₂ packed (s .number ∙ sym (accepted-not (inputRefusal input) _ _ n)) (sym (accepted-not (inputRefusal input) _ _ n))
 
-  pub last-packed : r .number ≡ 0 → (o : Outcome) → LastAnswered (view (r .book)) closes (eventsOf (take (length input - r .file) (drop (r .file) input))) sheet o
+  pub last-packed : r .number ≡ 0 → (o : Outcome) → LastAnswered (opened input) closes (eventsOf (take (length input - r .file) (drop (r .file) input))) sheet o
       → packed (outcome.numberOf o) (outcome.quantityOf o) ≡ packed (lastNumber input closes sheet) (lastQuantity input closes sheet)
   unfolding lastNumber lastQuantity
   last-packed e o k =
       let zero : inputRefusal input ≡ 0 = sym (s .number) ∙ e in
       let file = back input (r .file) (s .file) in
       let same : LastAnswered (opened input) closes (eventsIn input) sheet o =
-      subst (λ (b : plain.Book). LastAnswered b closes (eventsIn input) sheet o) (s .book) (subst (λ (l : List ℕ). LastAnswered (view (r .book)) closes (eventsOf l) sheet o) file k) in
+      subst (λ (l : List ℕ). LastAnswered (opened input) closes (eventsOf l) sheet o) file k in
       ap₂ packed (same .number ∙ sym (accepted-zero (inputRefusal input) _ _ zero)) (same .quantity ∙ sym (accepted-zero (inputRefusal input) _ _ zero))

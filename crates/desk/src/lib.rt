@@ -150,8 +150,8 @@ pub extern "C" fn fails_last_call(input: &[u8], closes: u32, sheet: u32) -> u64
         return packed(number, 0);
     }
     let file = started.file;
-    let book = started.book;
-    let outcome = replay::last_answer(book, closes, &input[file..], sheet as usize);
+    let core = started.core;
+    let outcome = replay::last_answer(core, closes, &input[file..], sheet as usize);
     match outcome {
         Outcome::Done(quantity) => packed(0, quantity),
         Outcome::Refused(refusal) => packed(refusal, 0),
@@ -169,6 +169,6 @@ pub extern "C" fn fails_last_lines(input: &[u8], page: &mut [u8]) -> u32
         return 0;
     }
     let file = started.file;
-    let book = started.book;
-    transcript::last_lines(page, &input[file..], book) as u32
+    let core = started.core;
+    transcript::last_lines(page, &input[file..], core) as u32
 }

@@ -1,12 +1,13 @@
--- The claim about histories: after every list of the calls from any opened book, refused ones included, with sheets of any length.
+-- The claim about histories: after every list of the calls from any opened book, refused ones included, in place or by value, with sheets of
+-- any length.
 use Prim.Native.Nat.{ℕ, suc, _+_, _-_, _<_}
 use native.Mathlib.Omega.{arith}
 use mathlib.Core.Path.{_≡_, refl, ap, sym, _∙_, subst}
 use mathlib.Core.Logic.{_≢_}
-use mathlib.Core.List.{List, [], _∷_, _++_, map, append-nil}
+use mathlib.Core.List.{List, [], _∷_, _++_, map}
 use mathlib.Core.Bool.{not}
-use lib.Seq.{take-length, drop-nil}
-use lib.ListN.{length, getD, drop}
+use lib.Seq.{take-length, length-take-le}
+use lib.ListN.{length, getD, take, drop}
 use borrow.Author.Tests.{not-false, le-ltb}
 use lib.IntN.{pos, subℕ}
 use Rattle.laws.specs.Lists.{All, range, sum}
@@ -22,116 +23,144 @@ use Rattle.plain.specs.Dealing.{takenBy}
 use Rattle.plain.specs.Charging.{creditOf, debitOf}
 use Rattle.plain.specs.Calls.{Call, shortOf}
 use Rattle.plain.specs.Refusals.{refusal}
-use Rattle.plain.specs.Histories.{eventOf, pieces, quantity, run, handed, allCharges, acceptedEvents, formed, balance}
+use Rattle.plain.specs.Histories.{eventOf, next, pieces, quantity, run, handed, allCharges, acceptedEvents, formed, balance}
 use Rattle.plain.proofs.Accepted.{Within, both-bounds, next-keeps}
 use Rattle.plain.proofs.Invariants.{DueLong}
 use Rattle.plain.proofs.Sound.{Sound, done-sound, new-sound}
+use Rattle.plain.proofs.Discharges as discharges
 use Rattle.plain.proofs.Discharges.{discharge}
 use Rattle.plain.proofs.Bound.{Small}
 use Rattle.plain.proofs.Claim as told
-use Rattle.book.specs.declared.Book.{Book}
-use Rattle.book.specs.View.{view, numberOf, quantityOf, Returned}
-use Rattle.book.specs.declared.PositionAnswer.{PositionAnswer}
-use Rattle.book.specs.declared.BalanceAnswer.{BalanceAnswer}
-use Rattle.book.specs.Reading.{notThere, positionNumber, positionFound, PositionRead, centsOf, BalanceRead}
-use Rattle.history.specs.Runs.{Return, piecesOn, Answers, lent, byValue, Runs, stop, step, last, sheets, refusals, quantities, dealings}
+use Rattle.pieces.specs.Sheet.{piecesOf}
+use Rattle.pieces.proofs.Cells.{length-pieces}
+use Rattle.kept.specs.View.{answer, numberOf, quantityOf}
+use Rattle.calls.specs.View.{Called}
+use Rattle.calls.specs.Answers.{answered-number, answered-quantity}
+use Rattle.calls.specs.declared.PositionAnswer.{PositionAnswer}
+use Rattle.calls.specs.declared.BalanceAnswer.{BalanceAnswer}
+use Rattle.calls.specs.Reading.{notThere, positionNumber, positionFound, PositionRead, centsOf, BalanceRead}
+use Rattle.book.specs.View as whole
+use Rattle.book.proofs.Returns as book
+use Rattle.history.specs.Runs.{Stand, view, Sheet, noSheet, numberSheet, pieceSheet, handedBack, Return, piecesOn, Answers, bare, onNumbers, byValue, lent, Runs, stop, step, last, sheets, along}
 
--- What one call returned, with its pieces as the sheet has them
+-- What one call returned, with its pieces as the sheet has them: the same, however it was made
 
-returned : {b : Book} {c : Call} {r : Return} → Answers b c r → Returned b c (r .book) (r .outcome) (piecesOn r)
+called : {s : Stand} {c : Call} {r : Return} → Answers s c r → Called (s .core) (s .numbers) c (r .stand .core) (r .stand .numbers) (r .outcome) (piecesOn r)
 unfolding piecesOn
-returned (lent k) = k .returned
-returned (byValue {xs = xs} k) = rw (take-length xs) k
+called (bare d) = rw (d .none) (d .called)
+called (onNumbers d) = d .called
+called (byValue {b = b} {after = after} {c = c} {o = o} {xs = xs} k) = rw (take-length xs) (book.called b after o xs c k)
+called (lent {b = b} {after = after} {o = o} k) = book.called b after o _ _ (k .returned)
 
 -- The machine's calls follow the plain book
 
-pub agrees : {b : Book} {cs : List Call} {rs : List Return} → Runs b cs rs → view (last b rs) ≡ run (view b) cs
+module _ {s : Stand} {c : Call} {r : Return} (k : Answers s c r) where
+  number : numberOf (r .outcome) ≡ refusal (view s) c
+  number = answered-number (r .outcome) (refusal (view s) c) (quantity (view s) c) (called k .returned .outcome)
+
+  reported : quantityOf (r .outcome) ≡ quantity (view s) c
+  reported = answered-quantity (view s) c (r .outcome) (called k .returned .outcome)
+
+  -- a call that answers with a number is refused
+  turned-down : numberOf (r .outcome) ≢ 0 → refusal (view s) c ≢ 0
+  turned-down e z = e (number ∙ z)
+
+pub agrees : {s : Stand} {cs : List Call} {rs : List Return} → Runs s cs rs → view (last s rs) ≡ run (view s) cs
 unfolding last run
 agrees stop = refl
-agrees (step {cs = cs} k rs) = agrees rs ∙ ap (λ (p : plain.Book). run p cs) (returned k .book)
+agrees (step {cs = cs} k rs) = agrees rs ∙ ap (λ (p : plain.Book). run p cs) (called k .returned .book)
 
-same-numbers : {b : Book} {cs : List Call} {rs : List Return} → Runs b cs rs → map (λ r. numberOf (r .outcome)) rs ≡ refusals (view b) cs
-unfolding refusals
-same-numbers stop = refl
-same-numbers (step {b = b} {c = c} {cs = cs} k rs) =
-    rw (returned k .number) (ap (λ (l : List ℕ). refusal (view b) c ∷ l) (same-numbers rs ∙ ap (λ (p : plain.Book). refusals p cs) (returned k .book)))
+-- what each call returned, g, is what the plain book gives it, f
+module _ {A : Type 0} (g : Return → A) (f : plain.Book → Call → A) (same : (s : Stand) (c : Call) (r : Return) → Answers s c r → g r ≡ f (view s) c) where
+  all-same : {s : Stand} {cs : List Call} {rs : List Return} (b : plain.Book) → view s ≡ b → Runs s cs rs → map g rs ≡ along f b cs
+  unfolding along
+  all-same b e stop = refl
+  all-same b e (step {s = s} {c = c} {r = r} {rs = rs} k ks) =
+      ap (λ (x : A). x ∷ map g rs) (same s c r k ∙ ap (λ (p : plain.Book). f p c) e)
+      ∙ ap (λ (l : List A). f b c ∷ l) (all-same (next b c) (called k .returned .book ∙ ap (λ (p : plain.Book). next p c) e) ks)
 
-same-quantities : {b : Book} {cs : List Call} {rs : List Return} → Runs b cs rs → map (λ r. quantityOf (r .outcome)) rs ≡ quantities (view b) cs
-unfolding quantities
-same-quantities stop = refl
-same-quantities (step {b = b} {c = c} {cs = cs} k rs) =
-    rw (returned k .quantity) (ap (λ (l : List ℕ). quantity (view b) c ∷ l) (same-quantities rs ∙ ap (λ (p : plain.Book). quantities p cs) (returned k .book)))
-
-same-dealings : {b : Book} {cs : List Call} {rs : List Return} → Runs b cs rs → map piecesOn rs ≡ dealings (view b) cs
-unfolding dealings
-same-dealings stop = refl
-same-dealings (step {b = b} {c = c} {cs = cs} k rs) =
-    rw (returned k .pieces) (ap (λ (l : List (List Piece)). pieces (view b) c ∷ l) (same-dealings rs ∙ ap (λ (p : plain.Book). dealings p cs) (returned k .book)))
-
-same-sheets : {b : Book} {cs : List Call} {rs : List Return} → Runs b cs rs → sheets rs ≡ handed (view b) cs
+same-sheets : {s : Stand} {cs : List Call} {rs : List Return} → Runs s cs rs → sheets rs ≡ handed (view s) cs
 unfolding sheets handed
 same-sheets stop = refl
-same-sheets (step {b = b} {c = c} {cs = cs} k rs) =
-    rw (returned k .pieces) (ap (λ (l : List Piece). pieces (view b) c ++ l) (same-sheets rs ∙ ap (λ (p : plain.Book). handed p cs) (returned k .book)))
+same-sheets (step {s = s} {c = c} {cs = cs} k rs) =
+    rw (called k .returned .pieces) (ap (λ (l : List Piece). pieces (view s) c ++ l) (same-sheets rs ∙ ap (λ (p : plain.Book). handed p cs) (called k .returned .book)))
 
--- Each call of the list, on the book that it met
-
--- an accepted discharge's pieces add up to the quantity that it reports, and run from its short to due longs of that short's security
-pub record Dealt (b : Book) (c : Call) (r : Return) : Type 0 where
-  pub total : sum (λ x. x .quantity) (piecesOn r) ≡ quantityOf (r .outcome)
-  pub shorts : All (λ x. x .short ≡ shortOf (view b) (eventOf c)) (piecesOn r)
-  pub longs : All (λ x. DueLong (view b) (positionOf (view b) (shortOf (view b) (eventOf c)) .security) (x .long)) (piecesOn r)
+-- Each call of the list, where the history stood when it was made
 
 -- what is said of each call of a list
-pub data Each (P : Book → Call → Return → Type 0) : Book → List Call → List Return → Type 0 where
-  none : {b : Book} → Each P b [] []
-  one : {b : Book} {c : Call} {r : Return} {cs : List Call} {rs : List Return} → P b c r → Each P (r .book) cs rs → Each P b (c ∷ cs) (r ∷ rs)
+pub data Each (P : Stand → Call → Return → Type 0) : Stand → List Call → List Return → Type 0 where
+  none : {s : Stand} → Each P s [] []
+  one : {s : Stand} {c : Call} {r : Return} {cs : List Call} {rs : List Return} → P s c r → Each P (r .stand) cs rs → Each P s (c ∷ cs) (r ∷ rs)
 
-abbrev pub DealtOut : Book → Call → Return → Type 0
-DealtOut b c r = numberOf (r .outcome) ≡ 0 → shortOf (view b) (eventOf c) ≢ 0 → Dealt b c r
+module _ {P : Stand → Call → Return → Type 0} (p : (s : Stand) (c : Call) (r : Return) → Sound (view s) → Answers s c r → P s c r) where
+  every : {s : Stand} {cs : List Call} {rs : List Return} → Sound (view s) → Runs s cs rs → Each P s cs rs
+  every h stop = none
+  every h (step {s = s} {c = c} {r = r} k ks) = one (p s c r h k) (every (subst Sound (sym (called k .returned .book)) (next-keeps Sound done-sound (view s) c h)) ks)
 
-abbrev pub Kept : Book → Call → Return → Type 0
-Kept b c r = numberOf (r .outcome) ≢ 0 → (r .book ≡ b) × (piecesOn r ≡ []) × (quantityOf (r .outcome) ≡ 0)
+-- an accepted discharge's pieces add up to the quantity that it reports, and run from its short to due longs of that short's security
+pub record Dealt (s : Stand) (c : Call) (r : Return) : Type 0 where
+  pub total : sum (λ x. x .quantity) (piecesOn r) ≡ quantityOf (r .outcome)
+  pub shorts : All (λ x. x .short ≡ shortOf (view s) (eventOf c)) (piecesOn r)
+  pub longs : All (λ x. DueLong (view s) (positionOf (view s) (shortOf (view s) (eventOf c)) .security) (x .long)) (piecesOn r)
 
-dealt-out : (b : Book) (c : Call) (r : Return) → Sound (view b) → Returned b c (r .book) (r .outcome) (piecesOn r) → DealtOut b c r
-dealt-out b c r h k e s =
-    let d = discharge (view b) c h (sym (k .number) ∙ e) s in
-    record { total = rw (k .pieces, k .quantity) (d .total); shorts = rw (k .pieces) (d .shorts); longs = rw (k .pieces) (d .longs) }
+abbrev pub DealtOut : Stand → Call → Return → Type 0
+DealtOut s c r = numberOf (r .outcome) ≡ 0 → shortOf (view s) (eventOf c) ≢ 0 → Dealt s c r
 
-kept : (b : Book) (c : Call) (r : Return) → Returned b c (r .book) (r .outcome) (piecesOn r) → Kept b c r
-kept b c r k e =
-    let n : refusal (view b) c ≢ 0 = λ z. e (k .number ∙ z) in
-    let f = Rattle.plain.proofs.Discharges.refused (view b) c n in
-    (k .kept n, k .pieces ∙ f .pieces', k .quantity ∙ f .quantity')
+dealt-out : (s : Stand) (c : Call) (r : Return) → Sound (view s) → Answers s c r → DealtOut s c r
+dealt-out s c r h k e some =
+    let d = discharge (view s) c h (sym (number k) ∙ e) some in
+    let given = called k .returned .pieces in
+    record { total = rw (given, reported k) (d .total); shorts = rw given (d .shorts); longs = rw given (d .longs) }
 
-all-dealt : {b : Book} {cs : List Call} {rs : List Return} → Sound (view b) → Runs b cs rs → Each DealtOut b cs rs
-all-dealt h stop = none
-all-dealt h (step {b = b} {c = c} {r = r} k rs) =
-    one (dealt-out b c r h (returned k)) (all-dealt (subst Sound (sym (returned k .book)) (next-keeps Sound done-sound (view b) c h)) rs)
+-- "A refused call changes nothing": core and tables are the very same
+abbrev pub Kept : Stand → Call → Return → Type 0
+Kept s c r = numberOf (r .outcome) ≢ 0 → (r .stand ≡ s) × (piecesOn r ≡ []) × (quantityOf (r .outcome) ≡ 0)
 
-all-kept : {b : Book} {cs : List Call} {rs : List Return} → Runs b cs rs → Each Kept b cs rs
-all-kept stop = none
-all-kept (step {b = b} {c = c} {r = r} k rs) = one (kept b c r (returned k)) (all-kept rs)
+same-stand : (s z : Stand) → (z .core ≡ s .core) × (z .numbers ≡ s .numbers) → z ≡ s
+same-stand s z e i = record { core = e .0 i; numbers = e .1 i }
 
--- "The pieces fill the first places of a lent sheet ..; later places keep their content": a call's sheet as it returned, against the sheet as at entry
-pub record Filled (b : Book) (c : Call) (r : Return) : Type 0 where
-  pub count : r .count ≡ length (pieces (view b) c)
-  pub filled : r .exit ≡ pieces (view b) c ++ drop (r .count) (r .entry)
-  pub kept : numberOf (r .outcome) ≢ 0 → r .exit ≡ r .entry
+kept : {s : Stand} {c : Call} {r : Return} → Answers s c r → Kept s c r
+kept {s} {c} {r} k e =
+    let f = discharges.refused (view s) c (turned-down k e) in
+    (same-stand s (r .stand) (called k .kept (turned-down k e)), called k .returned .pieces ∙ f .pieces', reported k ∙ f .quantity')
 
-filled : {b : Book} {c : Call} {r : Return} → Answers b c r → Filled b c r
-filled (lent k) =
-    record { count = k .count; filled = k .sheet; kept = λ e. k .kept (λ z. e (k .returned .number ∙ z)) }
-filled {b} {c} (byValue {xs = xs} k) =
+-- what a call's sheet holds as it returned, with so many pieces: "The pieces fill the first places of a lent sheet ..; later places keep their
+-- content". The later places of a sheet of numbers are free
+abbrev pub Holds : Sheet → ℕ → List Piece → Type 0
+Holds noSheet n xs = [] ≡ xs
+Holds (numberSheet m entry exit) n xs = take n (piecesOf m exit) ≡ xs
+Holds (pieceSheet entry exit) n xs = exit ≡ xs ++ drop n entry
+Holds (handedBack ys) n xs = ys ≡ xs
+
+-- a sheet as at entry
+abbrev pub AsAtEntry : Sheet → Type 0
+AsAtEntry noSheet = Unit {0}
+AsAtEntry (numberSheet m entry exit) = exit ≡ entry
+AsAtEntry (pieceSheet entry exit) = exit ≡ entry
+AsAtEntry (handedBack xs) = xs ≡ []
+
+pub record Filled (s : Stand) (c : Call) (r : Return) : Type 0 where
+  pub count : r .count ≡ length (pieces (view s) c)
+  pub filled : Holds (r .sheet) (r .count) (pieces (view s) c)
+  pub kept : numberOf (r .outcome) ≢ 0 → AsAtEntry (r .sheet)
+
+filled : {s : Stand} {c : Call} {r : Return} → Answers s c r → Filled s c r
+unfolding whole.view
+filled (bare d) =
+    record { count = d .none ∙ ap length (d .called .returned .pieces); filled = d .called .returned .pieces; kept = λ e. tt }
+filled (onNumbers {m = m} {exit = exit} {n = n} d) =
+    record {
+      count = sym (length-take-le n (piecesOf m exit) (omega (arith, d .few, length-pieces m exit))) ∙ ap length (d .called .returned .pieces);
+      filled = d .called .returned .pieces;
+      kept = λ e. d .kept (turned-down (onNumbers d) e);
+    }
+filled {s} {c} (byValue k) =
     record {
       count = ap length (k .pieces);
-      filled = k .pieces ∙ sym (ap (λ (l : List Piece). pieces (view b) c ++ l) (drop-nil (length xs)) ∙ append-nil (pieces (view b) c));
-      kept = λ e. k .pieces ∙ Rattle.plain.proofs.Discharges.refused (view b) c (λ z. e (k .number ∙ z)) .pieces';
+      filled = k .pieces;
+      kept = λ e. k .pieces ∙ discharges.refused (view s) c (turned-down (byValue k) e) .pieces';
     }
-
-all-filled : {b : Book} {cs : List Call} {rs : List Return} → Runs b cs rs → Each Filled b cs rs
-all-filled stop = none
-all-filled (step k rs) = one (filled k) (all-filled rs)
+filled (lent k) = record { count = k .count; filled = k .sheet; kept = λ e. k .kept (turned-down (lent k) e) }
 
 -- What the reads report
 
@@ -148,57 +177,60 @@ read-cents b k a r h = r .cents ∙ simp (le-ltb 63 k (omega arith))
 
 -- The claim
 
-pub record History (register : Register) (b : Book) (cs : List Call) (rs : List Return) : Type 0 where
-  -- 1. each call's refusal number and quantity are the plain book's, and the book is the plain book's
-  pub numbers : map (λ r. numberOf (r .outcome)) rs ≡ refusals (new register) cs
-  pub reported : map (λ r. quantityOf (r .outcome)) rs ≡ quantities (new register) cs
-  pub book : view (last b rs) ≡ run (new register) cs
+pub record History (register : Register) (s : Stand) (cs : List Call) (rs : List Return) : Type 0 where
+  -- 1. each call's answer, its refusal number and its quantity are the plain book's, and the book is the plain book's
+  pub answered : map (λ r. r .outcome) rs ≡ along (λ b c. answer (refusal b c) (quantity b c)) (new register) cs
+  pub numbers : map (λ r. numberOf (r .outcome)) rs ≡ along refusal (new register) cs
+  pub reported : map (λ r. quantityOf (r .outcome)) rs ≡ along quantity (new register) cs
+  pub book : view (last s rs) ≡ run (new register) cs
   -- 2. each position's netted quantity, worked out from the accepted trades and closes of the list alone, is delivered, bought in, settled in cash and open
-  pub netted : (i : ℕ) → i < length (view (last b rs) .positions)
+  pub netted : (i : ℕ) → i < length (view (last s rs) .positions)
       → getD (formed (keys (register .count)) 1 [] (acceptedEvents (new register) cs)) i noPosition .netted
       ≡ takenBy Delivered (suc i) (sheets rs) + takenBy BoughtIn (suc i) (sheets rs) + takenBy Cash (suc i) (sheets rs)
-      + getD (view (last b rs) .positions) i noPosition .unsettled
+      + getD (view (last s rs) .positions) i noPosition .unsettled
   -- the same of what the public read reports of a position: its answer, as the read's contract has it
-  pub open-units : (n : ℕ) (a : PositionAnswer) → PositionRead (view (last b rs)) n a → positionNumber a ≡ 0
+  pub open-units : (n : ℕ) (a : PositionAnswer) → PositionRead (view (last s rs)) n a → positionNumber a ≡ 0
       → getD (formed (keys (register .count)) 1 [] (acceptedEvents (new register) cs)) (n - 1) noPosition .netted
       ≡ takenBy Delivered n (sheets rs) + takenBy BoughtIn n (sheets rs) + takenBy Cash n (sheets rs) + positionFound a .unsettled
   -- 3. each call's pieces are the plain book's, in the same order; an accepted discharge's add up to the quantity that it reports
-  pub dealt : map piecesOn rs ≡ dealings (new register) cs
-  pub discharges : Each DealtOut b cs rs
+  pub dealt : map piecesOn rs ≡ along pieces (new register) cs
+  pub discharges : Each DealtOut s cs rs
   -- 4. every account is the charging rules summed over the list
-  pub accounts : (k : ℕ) → k < 64 → balance (view (last b rs)) k ≡ subℕ (creditOf k (allCharges (new register) cs)) (debitOf k (allCharges (new register) cs))
+  pub accounts : (k : ℕ) → k < 64 → balance (view (last s rs)) k ≡ subℕ (creditOf k (allCharges (new register) cs)) (debitOf k (allCharges (new register) cs))
   -- the same of what the public read reports of an account
-  pub balances : (k : ℕ) (a : BalanceAnswer) → BalanceRead (view (last b rs)) k a → k < 64
+  pub balances : (k : ℕ) (a : BalanceAnswer) → BalanceRead (view (last s rs)) k a → k < 64
       → centsOf a ≡ subℕ (creditOf k (allCharges (new register) cs)) (debitOf k (allCharges (new register) cs))
   -- 5. all 64 accounts add up to zero, and none leaves plus or minus 10^17 cents
-  pub zero-sum : sumℤ (balance (view (last b rs))) (range 0 64) ≡ pos 0
-  pub small : (k : ℕ) → Small (view (last b rs)) k
-  -- a refused call returns the very same book, no pieces and quantity 0
-  pub refused : Each Kept b cs rs
-  -- each call's sheet is the plain book's pieces, and after them the places as at entry; a refused call's is as at entry
-  pub filled : Each Filled b cs rs
+  pub zero-sum : sumℤ (balance (view (last s rs))) (range 0 64) ≡ pos 0
+  pub small : (k : ℕ) → Small (view (last s rs)) k
+  -- a refused call returns the very same core, leaves every table as it was, hands out no pieces and reports quantity 0
+  pub refused : Each Kept s cs rs
+  -- each call's sheet holds the plain book's pieces, a sheet of structs after them the places as at entry; a refused call's is as at entry
+  pub filled : Each Filled s cs rs
 
-pub history : (register : Register) {b : Book} {cs : List Call} {rs : List Return} → view b ≡ new register → Runs b cs rs → History register b cs rs
-history register {b} {cs} {rs} e runs =
-    let same : view (last b rs) ≡ run (new register) cs = agrees runs ∙ ap (λ (p : plain.Book). run p cs) e in
+pub history : (register : Register) {s : Stand} {cs : List Call} {rs : List Return} → view s ≡ new register → Runs s cs rs → History register s cs rs
+history register {s} {cs} {rs} e runs =
+    let same : view (last s rs) ≡ run (new register) cs = agrees runs ∙ ap (λ (p : plain.Book). run p cs) e in
     let given : sheets rs ≡ handed (new register) cs = same-sheets runs ∙ ap (λ (p : plain.Book). handed p cs) e in
     let claim = told.claim register cs in
+    let sound : Sound (view s) = subst Sound (sym e) (new-sound register) in
     record {
-      numbers = same-numbers runs ∙ ap (λ (p : plain.Book). refusals p cs) e;
-      reported = same-quantities runs ∙ ap (λ (p : plain.Book). quantities p cs) e;
+      answered = all-same (λ r. r .outcome) (λ b c. answer (refusal b c) (quantity b c)) (λ s c r k. called k .returned .outcome) (new register) e runs;
+      numbers = all-same (λ r. numberOf (r .outcome)) refusal (λ s c r k. number k) (new register) e runs;
+      reported = all-same (λ r. quantityOf (r .outcome)) quantity (λ s c r k. reported k) (new register) e runs;
       book = same;
       netted = rw (same, given) (λ i h. sym (claim .netted i) ∙ claim .tallied i h);
       open-units = λ n a r z.
-          let held = read-there (view (last b rs)) n a r z in
+          let held = read-there (view (last s rs)) n a r z in
           let place : suc (n - 1) ≡ n = omega (arith, held .above) in
           let here : n - 1 < length (run (new register) cs .positions) = omega (arith, held .above, held .below, ap (λ (p : plain.Book). length (p .positions)) same) in
-          rw (given, read-found (view (last b rs)) n a r z, same) (rw place at (sym (claim .netted (n - 1)) ∙ claim .tallied (n - 1) here));
-      dealt = same-dealings runs ∙ ap (λ (p : plain.Book). dealings p cs) e;
-      discharges = all-dealt (subst Sound (sym e) (new-sound register)) runs;
+          rw (given, read-found (view (last s rs)) n a r z, same) (rw place at (sym (claim .netted (n - 1)) ∙ claim .tallied (n - 1) here));
+      dealt = all-same piecesOn pieces (λ s c r k. called k .returned .pieces) (new register) e runs;
+      discharges = every dealt-out sound runs;
       accounts = rw same (claim .accounts');
-      balances = λ k a r h. read-cents (view (last b rs)) k a r h ∙ ap (λ (p : plain.Book). balance p k) same ∙ claim .accounts' k h;
+      balances = λ k a r h. read-cents (view (last s rs)) k a r h ∙ ap (λ (p : plain.Book). balance p k) same ∙ claim .accounts' k h;
       zero-sum = rw same (claim .zero-sum);
       small = rw same (claim .small);
-      refused = all-kept runs;
-      filled = all-filled runs;
+      refused = every (λ s c r h k. kept k) sound runs;
+      filled = every (λ s c r h k. filled k) sound runs;
     }

@@ -5,59 +5,83 @@ use lib.ListN.{length, take}
 use Rattle.laws.specs.Lists.{each}
 use Rattle.events.specs.declared.Event.{Event}
 use Rattle.plain.specs.declared.Piece.{Piece}
+use Rattle.plain.specs.declared.Manner.{Manner}
 use Rattle.plain.specs.declared.Outcome.{Outcome}
 use Rattle.plain.specs.Book as plain
 use Rattle.plain.specs.Calls.{Call, call}
-use Rattle.plain.specs.Refusals.{refusal}
-use Rattle.plain.specs.Histories.{next, quantity, pieces}
+use Rattle.plain.specs.Histories.{next}
+use Rattle.pieces.specs.Sheet.{piecesOf}
+use Rattle.calls.specs.declared.Core.{Core}
+use Rattle.calls.specs.View.{Numbers, bookOf, CalledBare, CalledOn}
 use Rattle.book.specs.declared.Book.{Book}
-use Rattle.book.specs.View.{Returned}
+use Rattle.book.specs.View.{numbersIn, Returned}
 use Rattle.sheet.specs.Lent.{ReturnedOn}
 
--- what one call returned: the book and the outcome, the sheet that was lent to it as at entry and as it returned, and how many pieces it reports
+-- where a history stands: the core that the last call returned, and the tables as it left them. A book by value is both in one
+pub record Stand : Type 0 where
+  pub core : Core
+  pub numbers : Numbers
+
+abbrev pub standOf : Book → Stand
+standOf b = record { core = b .core; numbers = numbersIn b }
+
+-- the plain book that it stands for
+abbrev pub view : Stand → plain.Book
+view s = bookOf (s .core) (s .numbers)
+
+-- where a call's pieces stand: the call has no sheet; on a lent sheet of numbers, in the call's manner, or of structs, each as at entry and as
+-- it returned; or in what it hands back by value
+pub data Sheet : Type 0 where
+  noSheet : Sheet
+  numberSheet : Manner → List ℕ → List ℕ → Sheet
+  pieceSheet : List Piece → List Piece → Sheet
+  handedBack : List Piece → Sheet
+
+-- the places of a sheet as the call returned
+abbrev pub placesOf : Sheet → List Piece
+placesOf noSheet = []
+placesOf (numberSheet m entry exit) = piecesOf m exit
+placesOf (pieceSheet entry exit) = exit
+placesOf (handedBack xs) = xs
+
+-- what one call returned: where the history stands, the outcome, its sheet, and how many pieces it reports
 pub record Return : Type 0 where
-  pub book : Book
+  pub stand : Stand
   pub outcome : Outcome
-  pub entry : List Piece
-  pub exit : List Piece
+  pub sheet : Sheet
   pub count : ℕ
 
 -- "A call's pieces are read as it returns": as many as it reports, from the sheet as it returned
 unfoldable pub piecesOn : Return → List Piece
-piecesOn r = take (r .count) (r .exit)
+piecesOn r = take (r .count) (placesOf (r .sheet))
 
--- where no sheet is lent, what a call hands back stands for one: the pieces of a discharge by value, and of the six other calls none
-abbrev pub handedBack : Book → Outcome → List Piece → Return
-handedBack after o xs = record { book = after; outcome = o; entry = []; exit = xs; count = length xs }
+-- one call, as its contract has it: in place, without a sheet or on a sheet of numbers; on a book by value; or on a book by value and a
+-- lent sheet of structs of any length
+pub data Answers : Stand → Call → Return → Type 0 where
+  bare : {s z : Stand} {c : Call} {o : Outcome} {n : ℕ} → CalledBare (s .core) (s .numbers) c (z .core) (z .numbers) o n
+      → Answers s c (record { stand = z; outcome = o; sheet = noSheet; count = n })
+  onNumbers : {s z : Stand} {c : Call} {m : Manner} {entry exit : List ℕ} {o : Outcome} {n : ℕ} → CalledOn (s .core) (s .numbers) c m entry (z .core) (z .numbers) exit o n
+      → Answers s c (record { stand = z; outcome = o; sheet = numberSheet m entry exit; count = n })
+  byValue : {b after : Book} {c : Call} {o : Outcome} {xs : List Piece} → Returned b c after o xs
+      → Answers (standOf b) c (record { stand = standOf after; outcome = o; sheet = handedBack xs; count = length xs })
+  lent : {b after : Book} {e : Event} {entry exit : List Piece} {o : Outcome} {n : ℕ} → ReturnedOn b e entry exit after o n
+      → Answers (standOf b) (call e (length entry)) (record { stand = standOf after; outcome = o; sheet = pieceSheet entry exit; count = n })
 
--- one call on the book b, as its contract has it: on a lent sheet of any length, or by value
-pub data Answers (b : Book) : Call → Return → Type 0 where
-  lent : {e : Event} {r : Return} → ReturnedOn b e (r .entry) (r .exit) (r .book) (r .outcome) (r .count) → Answers b (call e (length (r .entry))) r
-  byValue : {c : Call} {after : Book} {o : Outcome} {xs : List Piece} → Returned b c after o xs → Answers b c (handedBack after o xs)
+-- a list of calls, each with the core that the one before returned and the tables as it left them, and what each returned
+pub data Runs : Stand → List Call → List Return → Type 0 where
+  stop : {s : Stand} → Runs s [] []
+  step : {s : Stand} {c : Call} {r : Return} {cs : List Call} {rs : List Return} → Answers s c r → Runs (r .stand) cs rs → Runs s (c ∷ cs) (r ∷ rs)
 
--- a list of calls, each on the book that the one before returned, with what each returned
-pub data Runs : Book → List Call → List Return → Type 0 where
-  stop : {b : Book} → Runs b [] []
-  step : {b : Book} {c : Call} {r : Return} {cs : List Call} {rs : List Return} → Answers b c r → Runs (r .book) cs rs → Runs b (c ∷ cs) (r ∷ rs)
-
--- the book after the last call
-unfoldable pub last : Book → List Return → Book
-last b [] = b
-last b (r ∷ rs) = last (r .book) rs
+-- where the history stands after the last call
+unfoldable pub last : Stand → List Return → Stand
+last s [] = s
+last s (r ∷ rs) = last (r .stand) rs
 
 -- all pieces handed out, read from each call's sheet as it returned
 unfoldable pub sheets : List Return → List Piece
 sheets rs = each piecesOn rs
 
--- the refusal numbers, quantities and pieces that the plain book gives the calls one after the other
-unfoldable pub refusals : plain.Book → List Call → List ℕ
-refusals b [] = []
-refusals b (c ∷ cs) = refusal b c ∷ refusals (next b c) cs
-
-unfoldable pub quantities : plain.Book → List Call → List ℕ
-quantities b [] = []
-quantities b (c ∷ cs) = quantity b c ∷ quantities (next b c) cs
-
-unfoldable pub dealings : plain.Book → List Call → List (List Piece)
-dealings b [] = []
-dealings b (c ∷ cs) = pieces b c ∷ dealings (next b c) cs
+-- what the plain book gives the calls one after the other
+unfoldable pub along : {A : Type 0} → (plain.Book → Call → A) → plain.Book → List Call → List A
+along f b [] = []
+along f b (c ∷ cs) = f b c ∷ along f (next b c) cs

@@ -13,8 +13,7 @@ use Rattle.plain.specs.declared.Piece.{Piece}
 use Rattle.plain.specs.declared.Manner.the-variants.{Delivered}
 use Rattle.plain.specs.Book.{noPosition, nth}
 use Rattle.plain.proofs.Accepted.{Within}
-use Rattle.tables.specs.declared.Positions.{Positions}
-use Rattle.tables.specs.Tables.{positions, PositionsFit}
+use Rattle.tables.specs.Tables.{Positions, positions, PositionsFit}
 
 -- what stands where no piece is
 abbrev pub noPiece : Piece

@@ -12,10 +12,8 @@ use Rattle.plain.specs.declared.Ledger.{Ledger}
 use Rattle.plain.specs.Book.{Book, positionOf, classOf, latestOf}
 use Rattle.plain.specs.Dealing.{due}
 use Rattle.plain.specs.Charging.{posted, credited, debited, awardFines, lateFines}
-use Rattle.tables.specs.declared.Positions.{Positions}
+use Rattle.tables.specs.Tables.{Positions, Awards, awards}
 use Rattle.tables.specs.declared.Prices.{Prices}
-use Rattle.tables.specs.declared.Awards.{Awards}
-use Rattle.tables.specs.Tables.{awards}
 use Rattle.ledger.specs.Parts.{awardFinesOf}
 
 -- an award on a position whose security has this latest price; `fined` is what the test said

@@ -22,8 +22,7 @@ use Rattle.plain.proofs.Accounts.{cents, Places, Booked, Balanced, Accountable,
 use Rattle.plain.proofs.Awards.{marked, mark-of}
 use Rattle.plain.proofs.AwardSteps.{AuctionedBook}
 use Rattle.plain.proofs.Bound.{Bound}
-use Rattle.tables.specs.declared.Positions.{Positions}
-use Rattle.tables.specs.Tables.{positions, PositionsFit}
+use Rattle.tables.specs.Tables.{Positions, positions, PositionsFit}
 use Rattle.ledger.specs.Posts.{Room}
 use Rattle.ledger.specs.Tabled.{Accounted, Awarded, Paired}
 
@@ -65,9 +64,3 @@ all-paired b manner n q xs h =
     all-of (λ x. (x .short ≡ n) × DueLong b _ (x .long)) (Paired (length (b .positions))) xs
     (λ x f. record { short = rw (f .0) (h .dealable .held); long = f .1 .held })
     (all-both (λ x. x .short ≡ n) (λ x. DueLong b _ (x .long)) xs (h .shorts) (h .longs))
-
--- pricing leaves both sides of a piece as they are
-pub unpriced-paired : (b : Book) (held : ℕ) (xs : List Piece) → All (Paired held) (map (priced b) xs) → All (Paired held) xs
-unfolding priced
-unpriced-paired b held [] h = tt
-unpriced-paired b held (x ∷ xs) h = (record { short = h .0 .short; long = h .0 .long }, unpriced-paired b held xs (h .1))

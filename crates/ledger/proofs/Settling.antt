@@ -9,20 +9,27 @@ use mathlib.Core.Bool.{Bool, true, false, cond}
 use lib.ListN.{length, getD, take, drop, set, length-set}
 use lib.Seq.{take-suc-set, take-set-lt, drop-set-lt}
 use lib.Dec.{eqb}
-use Rattle.laws.specs.Lists.{each}
 use Rattle.rules.specs.Prices.{raised, cashPrice}
-use Rattle.rules.specs.Charges.{cashFee}
-use Rattle.register.specs.Register.{emptyRegister}
 use Rattle.plain.specs.declared.Piece.{Piece}
 use Rattle.plain.specs.Book.{noPosition}
-use Rattle.plain.specs.Charging.{Charge, payment}
-use Rattle.plain.proofs.Accepted.{Within}
-use Rattle.tables.specs.declared.Positions.{Positions}
-use Rattle.tables.specs.declared.Pieces.{Pieces}
-use Rattle.tables.specs.Tables.{positions, pieces}
-use Rattle.ledger.specs.Parts.{bookOf, pricedBy, paymentsOf, cashChargesBy}
+use Rattle.plain.specs.Charging.{payment}
+use Rattle.tables.specs.Tables.{Positions, positions}
+use Rattle.ledger.specs.Parts.{pricedBy}
 use Rattle.ledger.specs.Tabled.{Paired}
 use Rattle.ledger.proofs.Elements.{ahead-at, ahead-end, position-at}
+use Prim.Native.Nat.{ℕ, _-_, _*_}
+use mathlib.Core.Path.{_≡_}
+use mathlib.Core.List.{[], _∷_}
+use lib.ListN.{getD}
+use Rattle.rules.specs.Prices.{cashPrice}
+use Rattle.plain.specs.declared.Position.{Position}
+use Rattle.plain.specs.declared.Manner.the-variants.{Cash}
+use Rattle.plain.specs.Charging.{payment}
+use Rattle.tables.specs.Tables.{Positions, positions}
+use Rattle.pieces.specs.Sheet.{unpriced, withCents}
+use Rattle.ledger.specs.Parts.{pricedBy}
+use Rattle.ledger.proofs.Elements.{position-at}
+use Rattle.ledger.specs.Settling.{paymentBy, Owed}
 
 -- the first n elements of a table, of which those before place i have been changed by f and the rest is as it was
 module _ {A : Type 0} (f : A → A) (n : ℕ) (items : List A) where
@@ -77,33 +84,15 @@ piece-fits quantity class short long latest price q s l h e =
     let product : quantity * price ≤ 4294967296 * 20000000 = mul-le-mul few small in
     omega arith
 
-pub priced-at : (p : Positions) (class latest price cents : ℕ) (x : Piece) → Paired (p .count) x
-    → price ≡ cashPrice class (getD (p .items) (x .short - 1) noPosition .reference) (getD (p .items) (x .long - 1) noPosition .reference) latest
-    → cents ≡ x .quantity * price
-    → record { short = x .short; long = x .long; quantity = x .quantity; manner = x .manner; cents = cents } ≡ pricedBy class latest (positions p) x
-unfolding pricedBy
-priced-at p class latest price cents x h e k = rw (position-at p (x .short) (h .short), position-at p (x .long) (h .long), k, e)
+abbrev pub noPiece : Piece
+noPiece = unpriced Cash 0 0 0
 
--- Payments
+module _ (p : Positions) (short : Position) (class latest : ℕ) (x : Piece) (long : Position) (units price : ℕ) (h : Paired (p .count) x) (o : Owed p short x)
+    (l : long ≡ getD (p .items) (x .long - 1) noPosition) (u : units ≡ x .quantity) (e : price ≡ cashPrice class (short .reference) (long .reference) latest) where
+  pub priced-here : withCents (units * price) x ≡ pricedBy class latest (positions p) x
+  unfolding pricedBy
+  priced-here = rw (o .reference, position-at p (x .long) (h .long), e, l, u)
 
-abbrev pub paid : Positions → Piece → List Charge
-paid p x = payment (bookOf emptyRegister 0 [] (positions p)) x ∷ []
-
-map-each : {A B : Type 0} (g : A → B) (xs : List A) → map g xs ≡ each (λ x. g x ∷ []) xs
-map-each g [] = refl
-map-each g (x ∷ xs) = rw (map-each g xs)
-
-pub payments-each : (xs : Pieces) (p : Positions) → paymentsOf xs p ≡ each (paid p) (take (xs .count) (xs .items))
-unfolding paymentsOf pieces
-payments-each xs p = map-each (payment (bookOf emptyRegister 0 [] (positions p))) (take (xs .count) (xs .items))
-
-pub paid-at : (p : Positions) (x : Piece) → Paired (p .count) x
-    → paid p x ≡ record { payer = getD (p .items) (x .short - 1) noPosition .member; payee = getD (p .items) (x .long - 1) noPosition .member; cents = x .cents } ∷ []
-unfolding payment
-paid-at p x h = rw (position-at p (x .short) (h .short), position-at p (x .long) (h .long))
-
--- the fee comes after the payments
-pub cash-fee-last : (xs : Pieces) (p : Positions) (n latest value fee : ℕ) → Within 1 (p .count) n → value ≡ getD (p .items) (n - 1) noPosition .unsettled * latest → fee ≡ cashFee value
-    → cashChargesBy xs p n latest ≡ paymentsOf xs p ++ record { payer = getD (p .items) (n - 1) noPosition .member; payee = 0; cents = fee } ∷ []
-unfolding cashChargesBy
-cash-fee-last xs p n latest value fee h v f = rw (position-at p n h, f, v)
+  pub payment-here : paymentBy class latest p x ≡ record { payer = short .member; payee = long .member; cents = units * price } ∷ []
+  unfolding payment pricedBy
+  payment-here = rw (o .member, o .reference, position-at p (x .long) (h .long), e, l, u)

@@ -1,3 +1,4 @@
 pub mod Posts
 pub mod Parts
 pub mod Tabled
+pub mod Settling

@@ -12,11 +12,9 @@ use Rattle.plain.specs.declared.Position.{Position}
 use Rattle.plain.specs.declared.Piece.{Piece}
 use Rattle.plain.specs.Book.{Book, noAuction, noPosition, nth, positionOf, classOf, latestOf}
 use Rattle.plain.specs.Charging.{Charge, priced, payment, cashCharges, awardFines, lateFines, closeCharges}
-use Rattle.tables.specs.declared.Positions.{Positions}
+use Rattle.tables.specs.Tables.{Positions, Awards, positions, pieces, awards}
 use Rattle.tables.specs.declared.Prices.{Prices}
-use Rattle.tables.specs.declared.Awards.{Awards}
 use Rattle.tables.specs.declared.Pieces.{Pieces}
-use Rattle.tables.specs.Tables.{positions, pieces, awards}
 
 -- a plain book of the parts that charges go by; it holds nothing else
 abbrev pub bookOf : Register → ℕ → List ℕ → List Position → Book

@@ -12,13 +12,11 @@ use Rattle.plain.specs.declared.Ledger.{Ledger}
 use Rattle.plain.specs.Charging.{Charge}
 use Rattle.plain.proofs.Accepted.{Within}
 use Rattle.plain.proofs.Accounts.{Booked}
-use Rattle.tables.specs.declared.Positions.{Positions}
+use Rattle.tables.specs.Tables.{Positions, Awards, positions, pieces, awards, PositionsFit, PiecesFit, AwardsFit}
 use Rattle.tables.specs.declared.Prices.{Prices}
-use Rattle.tables.specs.declared.Awards.{Awards}
 use Rattle.tables.specs.declared.Pieces.{Pieces}
-use Rattle.tables.specs.Tables.{positions, pieces, awards, PositionsFit, PiecesFit, AwardsFit}
 use Rattle.ledger.specs.Posts.{Room}
-use Rattle.ledger.specs.Parts.{awardFinesOf, lateFinesOf, closeChargesOf, pricedBy, paymentsOf, cashChargesBy}
+use Rattle.ledger.specs.Parts.{awardFinesOf, lateFinesOf, closeChargesOf, pricedBy}
 
 -- what posting one charge asks
 pub record Chargeable (l : Ledger) (c : Charge) : Type 0 where
@@ -72,19 +70,3 @@ pub record Priced (xs : Pieces) (p : Positions) (class latest : ℕ) (r : Pieces
   pub many : r .count ≡ xs .count
   pub priced : pieces r ≡ map (pricedBy class latest (positions p)) (pieces xs)
   pub fit : PiecesFit r
-
--- what posting the payments of pieces asks, and with the fee of short n
-pub record Payable (l : Ledger) (xs : Pieces) (p : Positions) : Type 0 where
-  pub room : Room l (paymentsOf xs p)
-  pub positions-fit : PositionsFit p
-  pub accounted : All Accounted (positions p)
-  pub pieces-fit : PiecesFit xs
-  pub paired : All (Paired (p .count)) (pieces xs)
-
-pub record CashPayable (l : Ledger) (xs : Pieces) (p : Positions) (n latest : ℕ) : Type 0 where
-  pub room : Room l (cashChargesBy xs p n latest)
-  pub positions-fit : PositionsFit p
-  pub accounted : All Accounted (positions p)
-  pub pieces-fit : PiecesFit xs
-  pub paired : All (Paired (p .count)) (pieces xs)
-  pub short : Within 1 (p .count) n

@@ -1,25 +1,24 @@
 // Posting charges on the accounts: each raises the payee's credits and the payer's debits. A function that owns a loop changes the
-// ledger's columns where they stand.
+// ledger's columns where they stand. The tables that charges go by are numbers that a caller lends.
 ghost use mathlib.Core.Path.{_≡_};
 ghost use mathlib.Core.Bool.{not, _&&_};
-ghost use mathlib.Core.List.{[], _∷_};
+ghost use mathlib.Core.List.{[], _∷_, _++_};
 ghost use Prim.Native.Nat.{_+_, _<_, _≤_};
 ghost use lib.Dec.{eqb, ltb};
-ghost use lib.ListN.{getD};
+ghost use lib.ListN.{length, getD};
 ghost use Rattle.rules.specs.Charges.{buyInCharge};
+ghost use Rattle.plain.specs.declared.Manner.the-variants.{Cash};
 ghost use Rattle.plain.specs.Charging.{raise, posted, charge};
 ghost use Rattle.plain.specs.Dealing.{due};
-ghost use Rattle.ledger.specs.Parts.{awardFinesOf, lateFinesOf, closeChargesOf, paymentsOf, cashChargesBy};
-ghost use Rattle.ledger.specs.Tabled.{Chargeable, AwardsFinable, LateFinable, CloseFinable, Priceable, Priced, Payable, CashPayable};
+ghost use Rattle.ledger.specs.Parts.{awardFinesOf, lateFinesOf, closeChargesOf};
+ghost use Rattle.ledger.specs.Tabled.{Chargeable, AwardsFinable, LateFinable, CloseFinable, Priced};
+ghost use Rattle.tables.specs.Lent.{positionTable, awardTable, pieceTable};
+ghost use Rattle.ledger.specs.Settling.{paymentsBy, feeOf, Settleable};
 use laws::BusinessDay;
 use plain::Ledger;
-use plain::Piece;
 use plain::Position;
 use register::Register;
 use rules::Amount;
-use tables::Awards;
-use tables::Pieces;
-use tables::Positions;
 use tables::Prices;
 
 const HOUSE: u8 = 0;
@@ -80,21 +79,22 @@ fn short_is_fined(position: Position, class: u8, latest: u32, day: BusinessDay) 
 
 pub fn post_award_fines(
     ledger: Ledger,
-    awards: Awards,
-    positions: Positions,
+    awards: &[u32; 1280],
+    awarded: usize,
+    rows: &[u32; 10240],
+    held: usize,
     prices: Prices,
     register: Register,
 ) -> Ledger
-    requires { ⌜ AwardsFinable ledger awards positions prices register ⌝ }
-    ensures { λ r. ⌜ r ≡ posted ledger (awardFinesOf awards positions prices register) ⌝ }
+    requires { ⌜ AwardsFinable ledger (awardTable (now awards) awarded) (positionTable (now rows) held) prices register ⌝ }
+    ensures { λ r. ⌜ r ≡ posted ledger (awardFinesOf (awardTable (now (awards .entry)) awarded) (positionTable (now (rows .entry)) held) prices register) ⌝ }
 {
-    let count = awards.count;
     let mut after = ledger;
     let mut i: usize = 0;
-    while i < count {
-        let award = awards.items[i];
+    while i < awarded {
+        let award = rows::award_at(awards, i);
         let place = (award.position - 1) as usize;
-        let short = positions.items[place];
+        let short = rows::row_at(rows, place);
         let k = (short.security - 1) as usize;
         let latest = prices.latest[k];
         if award_is_fined(award.confirmed, latest) {
@@ -110,19 +110,19 @@ pub fn post_award_fines(
 
 pub fn post_late_fines(
     ledger: Ledger,
-    positions: Positions,
+    rows: &[u32; 10240],
+    held: usize,
     prices: Prices,
     register: Register,
     day: BusinessDay,
 ) -> Ledger
-    requires { ⌜ LateFinable ledger positions prices register day ⌝ }
-    ensures { λ r. ⌜ r ≡ posted ledger (lateFinesOf positions prices register day) ⌝ }
+    requires { ⌜ LateFinable ledger (positionTable (now rows) held) prices register day ⌝ }
+    ensures { λ r. ⌜ r ≡ posted ledger (lateFinesOf (positionTable (now (rows .entry)) held) prices register day) ⌝ }
 {
-    let count = positions.count;
     let mut after = ledger;
     let mut i: usize = 0;
-    while i < count {
-        let short = positions.items[i];
+    while i < held {
+        let short = rows::row_at(rows, i);
         let k = (short.security - 1) as usize;
         let class = register.classes[k];
         let latest = prices.latest[k];
@@ -138,91 +138,71 @@ pub fn post_late_fines(
 
 pub fn post_close(
     ledger: Ledger,
-    awards: Awards,
-    positions: Positions,
+    awards: &[u32; 1280],
+    awarded: usize,
+    rows: &[u32; 10240],
+    held: usize,
     prices: Prices,
     register: Register,
     day: BusinessDay,
 ) -> Ledger
-    requires { ⌜ CloseFinable ledger awards positions prices register day ⌝ }
-    ensures { λ r. ⌜ r ≡ posted ledger (closeChargesOf awards positions prices register day) ⌝ }
+    requires { ⌜ CloseFinable ledger (awardTable (now awards) awarded) (positionTable (now rows) held) prices register day ⌝ }
+    ensures { λ r. ⌜ r ≡ posted ledger (closeChargesOf (awardTable (now (awards .entry)) awarded) (positionTable (now (rows .entry)) held) prices register day) ⌝ }
 {
     let mut fined = ledger;
-    // a day without awards needs no pass over them, and no copy of the positions
-    if 0 < awards.count {
-        let after = post_award_fines(ledger, awards, positions, prices, register);
+    if 0 < awarded {
+        let after = post_award_fines(ledger, awards, awarded, rows, held, prices, register);
         fined = after;
     }
-    post_late_fines(fined, positions, prices, register, day)
+    post_late_fines(fined, rows, held, prices, register, day)
 }
 
-// The pieces of a cash settlement with their cents, by the class and the latest price of their security. The array and
-// its count stay apart until the end, which spares copies of the table.
-pub fn price_pieces(pieces: Pieces, positions: Positions, class: u8, latest: u32) -> Pieces
-    requires { ⌜ Priceable pieces positions latest ⌝ }
-    ensures { λ r. ⌜ Priced pieces positions class latest r ⌝ }
+// The pieces of a short that is settled in cash get their cents and are paid for, in one pass over the lent sheet.
+pub fn post_payments(
+    ledger: Ledger,
+    rows: &[u32; 10240],
+    held: usize,
+    sheet: &mut [u64; 4096],
+    dealt: usize,
+    short: Position,
+    class: u8,
+    latest: u32,
+) -> Ledger
+    requires { ⌜ (Settleable ledger (paymentsBy class latest (positionTable (now rows) held) (pieceTable Cash (now sheet) dealt)) (positionTable (now rows) held) (pieceTable Cash (now sheet) dealt) short latest) × (length (now sheet) ≡ 4096) ⌝ }
+    ensures { λ r. ⌜ (Priced (pieceTable Cash (now (sheet .entry)) dealt) (positionTable (now (rows .entry)) held) class latest (pieceTable Cash (now (sheet .exit)) dealt)) × (r ≡ posted ledger (paymentsBy class latest (positionTable (now (rows .entry)) held) (pieceTable Cash (now (sheet .entry)) dealt))) × (length (now (sheet .exit)) ≡ 4096) ⌝ }
 {
-    let count = pieces.count;
-    let mut priced = pieces.items;
-    let mut i: usize = 0;
-    while i < count {
-        let piece = priced[i];
-        let short_place = (piece.short - 1) as usize;
-        let short = positions.items[short_place];
-        let long_place = (piece.long - 1) as usize;
-        let long = positions.items[long_place];
-        let price = rules::cash_price(class, short.reference, long.reference, latest);
-        let cents = (piece.quantity as u64) * price;
-        let manner = piece.manner;
-        priced[i] = Piece {
-            short: piece.short,
-            long: piece.long,
-            quantity: piece.quantity,
-            manner,
-            cents,
-        };
-        i += 1;
-    }
-    Pieces {
-        items: priced,
-        count,
-    }
-}
-
-pub fn post_payments(ledger: Ledger, pieces: Pieces, positions: Positions) -> Ledger
-    requires { ⌜ Payable ledger pieces positions ⌝ }
-    ensures { λ r. ⌜ r ≡ posted ledger (paymentsOf pieces positions) ⌝ }
-{
-    let count = pieces.count;
     let mut after = ledger;
     let mut i: usize = 0;
-    while i < count {
-        let piece = pieces.items[i];
-        let short_place = (piece.short - 1) as usize;
-        let short = positions.items[short_place];
-        let long_place = (piece.long - 1) as usize;
-        let long = positions.items[long_place];
-        raise_place(&mut after.credits, long.member, piece.cents);
-        raise_place(&mut after.debits, short.member, piece.cents);
+    while i < dealt {
+        let number = pieces::long_at(sheet, i);
+        let units = pieces::units_at(sheet, i);
+        let place = (number - 1) as usize;
+        let long = rows::row_at(rows, place);
+        let price = rules::cash_price(class, short.reference, long.reference, latest);
+        let cents = (units as u64) * price;
+        pieces::put_cents(sheet, i, cents);
+        raise_place(&mut after.credits, long.member, cents);
+        raise_place(&mut after.debits, short.member, cents);
         i += 1;
     }
     after
 }
 
-// The payments of the pieces, and the fee of their short, whose open quantity is that before the settlement.
+// The payments, and the fee of the short, which is given as it was before the settlement.
 pub fn post_cash(
     ledger: Ledger,
-    pieces: Pieces,
-    positions: Positions,
-    position: u16,
+    rows: &[u32; 10240],
+    held: usize,
+    sheet: &mut [u64; 4096],
+    dealt: usize,
+    short: Position,
+    class: u8,
     latest: u32,
 ) -> Ledger
-    requires { ⌜ CashPayable ledger pieces positions position latest ⌝ }
-    ensures { λ r. ⌜ r ≡ posted ledger (cashChargesBy pieces positions position latest) ⌝ }
+    requires { ⌜ (Settleable ledger (paymentsBy class latest (positionTable (now rows) held) (pieceTable Cash (now sheet) dealt) ++ feeOf short latest ∷ []) (positionTable (now rows) held) (pieceTable Cash (now sheet) dealt) short latest) × (length (now sheet) ≡ 4096) ⌝ }
+    ensures { λ r. ⌜ (Priced (pieceTable Cash (now (sheet .entry)) dealt) (positionTable (now (rows .entry)) held) class latest (pieceTable Cash (now (sheet .exit)) dealt)) × (r ≡ posted ledger (paymentsBy class latest (positionTable (now (rows .entry)) held) (pieceTable Cash (now (sheet .entry)) dealt) ++ feeOf short latest ∷ [])) × (length (now (sheet .exit)) ≡ 4096) ⌝ }
 {
-    let place = (position - 1) as usize;
-    let short = positions.items[place];
     let fee = rules::cash_fee(rules::value_of(short.unsettled, latest));
-    let paid = post_payments(ledger, pieces, positions);
+    let paid = post_payments(ledger, rows, held, sheet, dealt, short, class, latest);
     post(paid, short.member, HOUSE, fee)
 }

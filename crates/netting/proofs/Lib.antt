@@ -1,5 +1,6 @@
-pub mod Filling
+pub mod Cells
 pub mod Places
-pub mod Made
+pub mod Filling
 pub mod Totalling
+pub mod Made
 pub mod Appending

@@ -1,12 +1,12 @@
--- The totals at each place, as the pass over the day's trades has them.
-use Prim.Native.Nat.{ℕ, zero, suc, _+_, _-_, _/_, _%_, _≤_, _<_, max}
+-- The totals as the pass over the day's trades has them.
+use Prim.Native.Nat.{ℕ, zero, suc, _+_, _-_, _≤_, _<_, max}
 use native.Mathlib.Nat.{add-zero, max-zero}
 use native.Mathlib.Omega.{arith}
-use mathlib.Core.Path.{_≡_, ap, sym, _∙_, subst}
+use mathlib.Core.Path.{_≡_, refl, ap, sym, _∙_, subst}
 use mathlib.Core.Logic.{_≢_}
 use mathlib.Core.List.{List, [], _∷_, _++_}
 use mathlib.Core.Bool.{Bool, true, false, true≢false}
-use lib.ListN.{length, getD, set, take, length-set, length-take, length-drop, length-replicate, getD-replicate}
+use lib.ListN.{length, getD, take, length-take, length-drop, length-replicate}
 use lib.Seq.{take-suc, take-all, getD-set-same, getD-set-other, getD-take, getD-drop, length-take-le}
 use lib.Dec.{eqb}
 use borrow.Author.Tests.{eq-eqb, eqb-true}
@@ -15,18 +15,17 @@ use Rattle.laws.specs.Listed.{sum-append}
 use Rattle.laws.specs.Alls.{all-at}
 use Rattle.laws.specs.Asked.{Said, passed, failed, ask, and-left, and-right, both}
 use Rattle.events.specs.declared.Trade.{Trade}
+use Rattle.rows.specs.Rows.{noTrade}
 use Rattle.plain.specs.Netting.{Key, units, highest}
-use Rattle.plain.proofs.Accepted.{Within}
 use Rattle.plain.proofs.Invariants.{TradeFits}
-use Rattle.plain.proofs.Netted.{units-le}
-use Rattle.tables.specs.declared.Trades.{Trades}
-use Rattle.tables.specs.Tables.{today}
+use Rattle.plain.proofs.Netted.{KeyFits, units-le}
+use Rattle.tables.specs.Tables.{Trades, today}
 use Rattle.netting.specs.declared.Side.{Side}
-use Rattle.netting.specs.declared.Side.the-variants.{Purchase, Sale}
+use Rattle.netting.specs.declared.Side.the-variants.{Sale, Purchase}
 use Rattle.netting.specs.declared.Total.{Total}
-use Rattle.netting.specs.declared.Totals.{Totals}
-use Rattle.netting.specs.Gathering.{noTotal, noTotals, keyAt, placeOf, partyOf, tradedBy, totalOf, added, Addable, Gatherable, Gathered}
-use Rattle.netting.proofs.Places.{place-fits, place-member, place-security, place-of-key}
+use Rattle.netting.specs.Gathering.{noTotal, totalsOf, noTotals, placeOf, partyOf, keyOf, tradedBy, totalIn, totalOf, added, raised, Totalled, Raisable, Gatherable, Gathered}
+use Rattle.netting.proofs.Cells.{length-totals, none-total}
+use Rattle.netting.proofs.Places.{place-fits, same-key, opposite, sides-apart}
 
 all-take : {A : Type 0} (P : A → Type 0) (n : ℕ) (xs : List A) → All P xs → All P (take n xs)
 all-take P zero xs h = tt
@@ -52,65 +51,50 @@ module _ (side : Side) (k : Key) (ts : List Trade) (t : Trade) where
   total-same : tradedBy side k t ≡ false → totalOf side k (ts ++ t ∷ []) ≡ totalOf side k ts
   total-same e = rw (units-last (tradedBy side k) ts t, highest-last (tradedBy side k) ts t, e, add-zero, max-zero)
 
-pub party-fits : (side : Side) (t : Trade) → TradeFits 32 t → Within 1 63 (partyOf side t)
-party-fits Purchase t f = f .buyer
-party-fits Sale t f = f .seller
+pub key-fits : (side : Side) (t : Trade) → TradeFits 32 t → KeyFits 32 (keyOf side t)
+key-fits Sale t f = record { member = f .seller; security = f .security }
+key-fits Purchase t f = record { member = f .buyer; security = f .security }
 
-abbrev pub tradePlace : Side → Trade → ℕ
-tradePlace side t = placeOf (partyOf side t) (t .security)
+-- a trade is of its own key, and of no other
+module _ (side : Side) (k : Key) (t : Trade) where
+  its-key : tradedBy side k t ≡ true → keyOf side t ≡ k
+  its-key e =
+      let m : partyOf side t ≡ k .member = eqb-true (partyOf side t) (k .member) (and-left (eqb (partyOf side t) (k .member)) (eqb (t .security) (k .security)) e) in
+      let s : t .security ≡ k .security = eqb-true (t .security) (k .security) (and-right (eqb (partyOf side t) (k .member)) (eqb (t .security) (k .security)) e) in
+      rw (m, s)
 
-pub trade-place-fits : (side : Side) (t : Trade) → TradeFits 32 t → tradePlace side t < 2016
-trade-place-fits side t f = place-fits (partyOf side t) (t .security) (party-fits side t f) (f .security)
-
--- a trade belongs to the key at its place, and to no other
-module _ (side : Side) (t : Trade) (f : TradeFits 32 t) (place : ℕ) where
-  its-place : tradedBy side (keyAt place) t ≡ true → place ≡ tradePlace side t
-  its-place e =
-      sym
-      (place-of-key (partyOf side t) (t .security) (party-fits side t f) (f .security) place
-      (eqb-true (partyOf side t) (place / 32 + 1) (and-left (eqb (partyOf side t) (place / 32 + 1)) (eqb (t .security) (place % 32 + 1)) e))
-      (eqb-true (t .security) (place % 32 + 1) (and-right (eqb (partyOf side t) (place / 32 + 1)) (eqb (t .security) (place % 32 + 1)) e)))
-
-  its-trade : place ≡ tradePlace side t → tradedBy side (keyAt place) t ≡ true
+  its-trade : keyOf side t ≡ k → tradedBy side k t ≡ true
   its-trade e =
-      both (eqb (partyOf side t) (place / 32 + 1)) (eqb (t .security) (place % 32 + 1))
-      (eq-eqb (partyOf side t) (place / 32 + 1) (rw e (sym (place-member (partyOf side t) (t .security) (party-fits side t f) (f .security)))))
-      (eq-eqb (t .security) (place % 32 + 1) (rw e (sym (place-security (partyOf side t) (t .security) (party-fits side t f) (f .security)))))
+      rw (← e) (both (eqb (partyOf side t) (partyOf side t)) (eqb (t .security) (t .security)) (eq-eqb (partyOf side t) (partyOf side t) refl) (eq-eqb (t .security) (t .security) refl))
 
--- the totals of the trades ts, at each place of l
-abbrev pub Totalled : Side → List Trade → List Total → Type 0
-Totalled side ts l = (place : ℕ) → place < 2016 → getD l place noTotal ≡ totalOf side (keyAt place) ts
+module _ (side : Side) (ts : List Trade) (t : Trade) (l : List Total) (f : TradeFits 32 t) where
+  raised-own : length l ≡ 4032 → Totalled side ts l → Totalled side (ts ++ t ∷ []) (raised side t l)
+  raised-own long h k fits = go (ask (tradedBy side k t))
+    where
+      go : Said (tradedBy side k t) → totalIn (raised side t l) side k ≡ totalOf side k (ts ++ t ∷ [])
+      go (passed e) =
+          rw (its-key side k t e) (getD-set-same l (placeOf side k) (added t (totalIn l side k)) noTotal (omega (arith, long, place-fits side k fits))
+          ∙ ap (added t) (h k fits)
+          ∙ sym (total-more side k ts t e))
+      go (failed e) =
+          let other : placeOf side k ≢ placeOf side (keyOf side t) = λ p. true≢false (sym (its-trade side k t (same-key side (keyOf side t) k (key-fits side t f) fits (sym p))) ∙ e) in
+          getD-set-other l (placeOf side (keyOf side t)) (placeOf side k) _ noTotal other ∙ h k fits ∙ sym (total-same side k ts t e)
 
-pub totalled-more : (side : Side) (ts : List Trade) (t : Trade) (l : List Total) → length l ≡ 2016 → TradeFits 32 t → Totalled side ts l
-    → Totalled side (ts ++ t ∷ []) (set l (tradePlace side t) (added t (getD l (tradePlace side t) noTotal)))
-totalled-more side ts t l n f h place lt = go (ask (tradedBy side (keyAt place) t))
-  where
-    more : Total
-    more = added t (getD l (tradePlace side t) noTotal)
-
-    go : Said (tradedBy side (keyAt place) t) → getD (set l (tradePlace side t) more) place noTotal ≡ totalOf side (keyAt place) (ts ++ t ∷ [])
-    go (passed e) =
-        let here : place ≡ tradePlace side t = its-place side t f place e in
-        rw (← here) (getD-set-same l place (added t (getD l place noTotal)) noTotal (omega (arith, n))
-        ∙ ap (added t) (h place lt)
-        ∙ sym (total-more side (keyAt place) ts t e))
-    go (failed e) =
-        let other : place ≢ tradePlace side t = λ p. true≢false (sym (its-trade side t f place p) ∙ e) in
-        getD-set-other l (tradePlace side t) place more noTotal other ∙ h place lt ∙ sym (total-same side (keyAt place) ts t e)
+  -- on the other side nothing is raised
+  raised-opposite : Totalled (opposite side) ts l → Totalled (opposite side) ts (raised side t l)
+  raised-opposite h k fits =
+      getD-set-other l (placeOf side (keyOf side t)) (placeOf (opposite side) k) _ noTotal (sides-apart side k (keyOf side t)) ∙ h k fits
 
 -- THE PASS
 
 -- the totals of the first trades of today, up to place i of the table
-pub record Totalling (side : Side) (trades : Trades) (i : ℕ) (l : List Total) : Type 0 where
+pub record Totalling (trades : Trades) (i : ℕ) (xs : List ℕ) : Type 0 where
   pub low : trades .netted ≤ i
   pub high : i ≤ trades .count
-  pub places : length l ≡ 2016
-  pub totals : Totalled side (take (i - trades .netted) (today trades)) l
+  pub long : length xs ≡ 8064
+  pub totals : (side : Side) → Totalled side (take (i - trades .netted) (today trades)) (totalsOf xs)
 
-abbrev pub noTrade : Trade
-noTrade = record { seller = 0; buyer = 0; security = 0; quantity = 0; price = 0 }
-
-module _ (side : Side) (trades : Trades) (g : Gatherable trades) where
+module _ (trades : Trades) (g : Gatherable trades) where
   length-today : length (today trades) ≡ trades .count - trades .netted
   unfolding today
   length-today = simp (length-drop, length-take) (omega (arith, g .fit .places, g .fit .held, g .fit .past))
@@ -123,58 +107,69 @@ module _ (side : Side) (trades : Trades) (g : Gatherable trades) where
       ∙ ap (λ (j : ℕ). getD (take (trades .count) (trades .items)) j noTrade) e
       ∙ getD-take (trades .count) (trades .items) i noTrade k
 
-  pub fair-at : (i : ℕ) → trades .netted ≤ i → i < trades .count → TradeFits 32 (getD (trades .items) i noTrade)
-  fair-at i h k =
-      subst (TradeFits 32) (today-at i h k)
-      (all-at (TradeFits 32) (today trades) (i - trades .netted) noTrade (omega (arith, length-today)) (g .fair))
-
-  pub totalling-start : Totalling side trades (trades .netted) noTotals
+  pub totalling-start : (xs : List ℕ) → xs ≡ noTotals → Totalling trades (trades .netted) xs
   unfolding noTotals units highest
-  totalling-start =
+  totalling-start xs none =
       let e : trades .netted - trades .netted ≡ 0 = omega arith in
       record {
         low = omega arith;
         high = g .fit .past;
-        places = length-replicate 2016 noTotal;
-        totals = λ place h. rw e (getD-replicate 2016 place noTotal noTotal h);
+        long = ap length none ∙ length-replicate {A = ℕ} 8064 0;
+        totals = λ side k f. rw (e, none) (none-total (placeOf side k) (place-fits side k f));
       }
 
-  module _ (i : ℕ) (l : List Total) (s : Totalling side trades i l) where
-    pub totalling-more : i < trades .count → (let t = getD (trades .items) i noTrade in
-        Totalling side trades (i + 1) (set l (tradePlace side t) (added t (getD l (tradePlace side t) noTotal))))
-    totalling-more k =
-        let t = getD (trades .items) i noTrade in
-        let next : i + 1 - trades .netted ≡ suc (i - trades .netted) = omega (arith, s .low) in
-        record {
-          low = omega (arith, s .low);
-          high = omega arith;
-          places = length-set l _ _ ∙ s .places;
-          totals = λ place h.
-              rw (next, take-suc (today trades) (i - trades .netted) noTrade (omega (arith, length-today, s .low)), today-at i (s .low) k)
-              (totalled-more side (take (i - trades .netted) (today trades)) t l (s .places) (fair-at i (s .low) k) (s .totals) place h);
-        }
+  -- the trade that was read at place i is raised on each side
+  module _ (i : ℕ) (xs : List ℕ) (s : Totalling trades i xs) (k : i < trades .count) (t : Trade) (read : t ≡ getD (trades .items) i noTrade) where
+    abbrev passed-trades : List Trade
+    passed-trades = take (i - trades .netted) (today trades)
+
+    trade-today : getD (today trades) (i - trades .netted) noTrade ≡ t
+    trade-today = today-at i (s .low) k ∙ sym read
+
+    fair : TradeFits 32 t
+    fair =
+        subst (TradeFits 32) trade-today
+        (all-at (TradeFits 32) (today trades) (i - trades .netted) noTrade (omega (arith, length-today, s .low)) (g .fair))
 
     -- so far no total exceeds what 512 trades come to
-    pub addable : i < trades .count → (let t = getD (trades .items) i noTrade in Addable (getD l (tradePlace side t) noTotal) t)
-    addable k =
-        let t = getD (trades .items) i noTrade in
-        let f = fair-at i (s .low) k in
+    pub raisable : (side : Side) (ys : List ℕ) → length ys ≡ 8064 → Totalled side passed-trades (totalsOf ys) → Raisable ys side t
+    raisable side ys long h =
         record {
-          total =
-              rw (s .totals (tradePlace side t) (trade-place-fits side t f))
-              (omega (
-                arith,
-                g .fit .held,
-                length-take-le (i - trades .netted) (today trades) (omega (arith, length-today)),
-                units-le (tradedBy side (keyAt (tradePlace side t))) 32 (take (i - trades .netted) (today trades)) (all-take (TradeFits 32) (i - trades .netted) (today trades) (g .fair)),
-              ));
-          trade = f .quantity .below;
+          long = long;
+          fair = fair;
+          addable =
+              record {
+                total =
+                    rw (h (keyOf side t) (key-fits side t fair))
+                    (omega (
+                      arith,
+                      g .fit .held,
+                      length-take-le (i - trades .netted) (today trades) (omega (arith, length-today)),
+                      units-le (tradedBy side (keyOf side t)) 32 passed-trades (all-take (TradeFits 32) (i - trades .netted) (today trades) (g .fair)),
+                    ));
+                trade = fair .quantity .below;
+              };
         }
 
-    pub gathered : (r : Totals) → r .items ≡ l → trades .count ≤ i → Gathered trades side r
-    gathered r e k =
-        record {
-          places = ap length e ∙ s .places;
-          totals = λ place h.
-              rw (e, ← take-all (i - trades .netted) (today trades) (omega (arith, length-today))) (s .totals place h);
-        }
+    module _ (ys : List ℕ) (sale : totalsOf ys ≡ raised Sale t (totalsOf xs)) where
+      pub purchases-kept : Totalled Purchase passed-trades (totalsOf ys)
+      purchases-kept = rw sale (raised-opposite Sale passed-trades t (totalsOf xs) fair (s .totals Purchase))
+
+      pub totalling-more : (zs : List ℕ) → length zs ≡ 8064 → totalsOf zs ≡ raised Purchase t (totalsOf ys) → Totalling trades (i + 1) zs
+      totalling-more zs long purchase =
+          let next : i + 1 - trades .netted ≡ suc (i - trades .netted) = omega (arith, s .low) in
+          record {
+            low = omega (arith, s .low);
+            high = omega arith;
+            long = long;
+            totals = λ side. rw (next, take-suc (today trades) (i - trades .netted) noTrade (omega (arith, length-today, s .low)), trade-today, purchase) (more side);
+          }
+        where
+          more : (side : Side) → Totalled side (passed-trades ++ t ∷ []) (raised Purchase t (totalsOf ys))
+          more Purchase = raised-own Purchase passed-trades t (totalsOf ys) fair (length-totals ys) purchases-kept
+          more Sale =
+              raised-opposite Purchase (passed-trades ++ t ∷ []) t (totalsOf ys) fair
+              (rw sale (raised-own Sale passed-trades t (totalsOf xs) fair (length-totals xs) (s .totals Sale)))
+
+  pub gathered : (i : ℕ) (xs : List ℕ) → Totalling trades i xs → trades .count ≤ i → Gathered trades (totalsOf xs)
+  gathered i xs s k = record { gathered = λ side. rw (← take-all (i - trades .netted) (today trades) (omega (arith, length-today))) (s .totals side) }

@@ -1,41 +1,56 @@
--- The totals of each member and security on one side, purchases or sales, and the position that they make.
-use Prim.Native.Nat.{ℕ, _+_, _-_, _*_, _/_, _%_, _≤_, _<_, max}
+-- The totals of the day's trades, by member and security, on each side: sales and purchases.
+use Prim.Native.Nat.{ℕ, _+_, _-_, _*_, _≤_, max}
 use mathlib.Core.Path.{_≡_}
-use mathlib.Core.Logic.{_≢_}
-use mathlib.Core.List.{List, []}
-use mathlib.Core.Bool.{Bool, true, false, _&&_}
-use lib.ListN.{length, getD, replicate}
-use lib.Dec.{ltb, eqb}
-use Rattle.laws.specs.Lists.{keep, All}
-use Rattle.laws.specs.declared.BusinessDay.{BusinessDay}
+use mathlib.Core.List.{List}
+use mathlib.Core.Bool.{Bool, _&&_}
+use lib.ListN.{length, getD, set, replicate}
+use lib.Dec.{eqb}
+use Rattle.laws.specs.Lists.{All}
+use Rattle.cells.specs.Table.{tableFrom}
 use Rattle.events.specs.declared.Trade.{Trade}
-use Rattle.plain.specs.declared.Position.{Position}
-use Rattle.plain.specs.Netting.{Key, units, highest, made}
+use Rattle.plain.specs.Netting.{Key, units, highest}
 use Rattle.plain.proofs.Invariants.{TradeFits}
-use Rattle.tables.specs.declared.Trades.{Trades}
-use Rattle.tables.specs.Tables.{today, TradesFit}
+use Rattle.plain.proofs.Netted.{KeyFits}
+use Rattle.tables.specs.Tables.{Trades, today, TradesFit}
 use Rattle.netting.specs.declared.Side.{Side}
-use Rattle.netting.specs.declared.Side.the-variants.{Purchase, Sale}
+use Rattle.netting.specs.declared.Side.the-variants.{Sale, Purchase}
 use Rattle.netting.specs.declared.Total.{Total}
-use Rattle.netting.specs.declared.Totals.{Totals}
+
+-- the total whose two numbers begin at a place of the list
+abbrev pub totalFrom : List ℕ → ℕ → Total
+totalFrom xs at = record { units = getD xs at 0; highest = getD xs (at + 1) 0 }
 
 abbrev pub noTotal : Total
 noTotal = record { units = 0; highest = 0 }
 
-unfoldable pub noTotals : List Total
-noTotals = replicate 2016 noTotal
+-- the 4,032 totals, and the numbers of none
+unfoldable pub totalsOf : List ℕ → List Total
+totalsOf xs = tableFrom 2 4032 totalFrom xs
 
--- the place of a member and a security, and the key at a place
-unfoldable pub placeOf : ℕ → ℕ → ℕ
-placeOf member security = (member - 1) * 32 + (security - 1)
+unfoldable pub noTotals : List ℕ
+noTotals = replicate 8064 0
 
-abbrev pub keyAt : ℕ → Key
-keyAt place = record { member = place / 32 + 1; security = place % 32 + 1 }
+abbrev pub keyFor : ℕ → ℕ → Key
+keyFor member security = record { member = member; security = security }
 
--- the member that trades on a side, and whether a trade is that key's on that side
+-- the place of a key's total on a side: two places a key, 32 keys a member
+abbrev pub sideNumber : Side → ℕ
+sideNumber Sale = 0
+sideNumber Purchase = 1
+
+unfoldable pub placeOf : Side → Key → ℕ
+placeOf side k = 2 * (32 * (k .member - 1) + (k .security - 1)) + sideNumber side
+
+abbrev pub totalIn : List Total → Side → Key → Total
+totalIn totals side k = getD totals (placeOf side k) noTotal
+
+-- the member that trades on a side, its key, and whether a trade is a key's on that side
 abbrev pub partyOf : Side → Trade → ℕ
-partyOf Purchase t = t .buyer
 partyOf Sale t = t .seller
+partyOf Purchase t = t .buyer
+
+abbrev pub keyOf : Side → Trade → Key
+keyOf side t = keyFor (partyOf side t) (t .security)
 
 abbrev pub tradedBy : Side → Key → Trade → Bool
 tradedBy side k t = eqb (partyOf side t) (k .member) && eqb (t .security) (k .security)
@@ -43,29 +58,30 @@ tradedBy side k t = eqb (partyOf side t) (k .member) && eqb (t .security) (k .se
 abbrev pub totalOf : Side → Key → List Trade → Total
 totalOf side k trades = record { units = units (tradedBy side k) trades; highest = highest (tradedBy side k) trades }
 
--- one more trade in a total
+-- one more trade in a total, and in the total of its key
 abbrev pub added : Trade → Total → Total
 added t a = record { units = a .units + t .quantity; highest = max (a .highest) (t .price) }
 
--- the positions, at most one, that a key's totals make
-unfoldable pub netOf : ℕ → Key → Total → Total → List Position
-netOf day k bought sold =
-    keep (ltb (bought .units) (sold .units)) (made day k true (sold .units - bought .units) (sold .highest))
-    (keep (ltb (sold .units) (bought .units)) (made day k false (bought .units - sold .units) (bought .highest)) [])
+abbrev pub raised : Side → Trade → List Total → List Total
+raised side t totals = set totals (placeOf side (keyOf side t)) (added t (totalIn totals side (keyOf side t)))
+
+-- the totals are those of the trades
+abbrev pub Totalled : Side → List Trade → List Total → Type 0
+Totalled side trades totals = (k : Key) → KeyFits 32 k → totalIn totals side k ≡ totalOf side k trades
 
 -- what each step asks, and what one pass over the trades ensures
 pub record Addable (a : Total) (t : Trade) : Type 0 where
   pub total : a .units ≤ 512000000
   pub trade : t .quantity ≤ 1000000
 
-pub record Unequal (day : BusinessDay) (bought sold : Total) : Type 0 where
-  pub dated : day .0 ≤ 9999
-  pub differ : bought .units ≢ sold .units
+pub record Raisable (xs : List ℕ) (side : Side) (t : Trade) : Type 0 where
+  pub long : length xs ≡ 8064
+  pub fair : TradeFits 32 t
+  pub addable : Addable (totalIn (totalsOf xs) side (keyOf side t)) t
 
 pub record Gatherable (trades : Trades) : Type 0 where
   pub fit : TradesFit trades
   pub fair : All (TradeFits 32) (today trades)
 
-pub record Gathered (trades : Trades) (side : Side) (r : Totals) : Type 0 where
-  pub places : length (r .items) ≡ 2016
-  pub totals : (place : ℕ) → place < 2016 → getD (r .items) place noTotal ≡ totalOf side (keyAt place) (today trades)
+pub record Gathered (trades : Trades) (totals : List Total) : Type 0 where
+  pub gathered : (side : Side) → Totalled side (today trades) totals

@@ -1,2 +1,3 @@
 pub mod Gathering
+pub mod Members
 pub mod Netting

@@ -7,9 +7,7 @@ use Rattle.laws.specs.Lists.{All}
 use Rattle.laws.specs.declared.BusinessDay.{BusinessDay}
 use Rattle.plain.specs.Netting.{keys, netted}
 use Rattle.plain.proofs.Invariants.{TradeFits}
-use Rattle.tables.specs.declared.Positions.{Positions}
-use Rattle.tables.specs.declared.Trades.{Trades}
-use Rattle.tables.specs.Tables.{today, positions, TradesFit, PositionsFit}
+use Rattle.tables.specs.Tables.{Positions, Trades, today, positions, TradesFit, PositionsFit}
 
 pub record DayFits (table : Positions) (trades : Trades) (day : BusinessDay) (securities : ℕ) : Type 0 where
   pub positions-fit : PositionsFit table

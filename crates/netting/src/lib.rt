@@ -1,74 +1,73 @@
-// Document 01, 'Trades and netting': the positions that a day's trades make, appended to the table of positions.
+// Document 01, 'Trades and netting': the positions that a day's trades make, put into the lent table of positions.
 ghost use mathlib.Core.Path.{_≡_};
-ghost use mathlib.Core.Bool.{_&&_, not};
 ghost use mathlib.Core.List.{_∷_, []};
-ghost use Prim.Native.Nat.{_+_, _/_, _%_, _<_, _≤_, max};
-ghost use lib.Dec.{leb, eqb};
-ghost use Rattle.netting.specs.Gathering.{noTotals, partyOf, placeOf, added, netOf, Gatherable, Gathered, Addable, Unequal};
+ghost use Prim.Native.Nat.{_<_, _≤_, max};
+ghost use lib.ListN.{length, getD, set};
+ghost use Rattle.netting.specs.Gathering.{noTotal, noTotals, totalsOf, keyFor, partyOf, placeOf, added, raised, Addable, Raisable, Gatherable, Gathered};
+ghost use Rattle.netting.specs.Members.{netOf, nettedBy, memberKeys, Unequal, MemberFits, Appended};
 ghost use Rattle.netting.specs.Netting.{DayFits, DayNetted};
+ghost use Rattle.tables.specs.Lent.{positionTable, tradeTable};
 use events::Trade;
 use laws::BusinessDay;
 use plain::Position;
-use tables::Positions;
-use tables::Trades;
 
 // The side of a trade that a member stands on.
-pub enum Side {
-    Purchase,
+enum Side {
     Sale,
+    Purchase,
 }
 
-// The units that a member bought, or sold, of a security, and the highest price of those trades.
-pub struct Total {
-    pub units: u32,
-    pub highest: u32,
+// The units that a member sold, or bought, of a security, and the highest price of those trades.
+struct Total {
+    units: u32,
+    highest: u32,
 }
 
-// Members 1 to 63 with securities 1 to 32.
-const PLACES: usize = 2016;
-
-// A total for each member and security, by member, then security.
-pub struct Totals {
-    pub items: [Total; PLACES],
-}
-
-fn no_totals() -> Totals
-    ensures { λ r. ⌜ r .items ≡ noTotals ⌝ }
+// Four numbers for each of members 1 to 63 with securities 1 to 32: units sold, highest sale, units bought, highest purchase.
+fn no_totals() -> [u32; 8064]
+    ensures { λ r. ⌜ r ≡ noTotals ⌝ }
 {
-    let none = Total {
-        units: 0,
-        highest: 0,
-    };
-    let items = [none; PLACES];
-    Totals { items }
+    [0; 8064]
 }
 
-fn place_of(member: u8, security: u16) -> usize
+fn total_at(totals: &[u32; 8064], place: usize) -> Total
+    requires { ⌜ place < 4032 ⌝ }
+    ensures { λ r. ⌜ r ≡ getD (totalsOf (now (totals .entry))) place noTotal ⌝ }
+{
+    let at = 2 * place;
+    Total {
+        units: totals[at],
+        highest: totals[at + 1],
+    }
+}
+
+fn put_total(totals: &mut [u32; 8064], place: usize, total: Total)
+    requires { ⌜ (length (now totals) ≡ 8064) × (place < 4032) ⌝ }
+    ensures { λ _. ⌜ (totalsOf (now (totals .exit)) ≡ set (totalsOf (now (totals .entry))) place total) × (length (now (totals .exit)) ≡ 8064) ⌝ }
+{
+    let at = 2 * place;
+    totals[at] = total.units;
+    totals[at + 1] = total.highest;
+}
+
+// The place of a total: by member, then security, then side.
+fn place_of(side: Side, member: u8, security: u16) -> usize
     requires { ⌜ (1 ≤ member) × (1 ≤ security) ⌝ }
-    ensures { λ r. ⌜ r ≡ placeOf member security ⌝ }
+    ensures { λ r. ⌜ r ≡ placeOf side (keyFor member security) ⌝ }
 {
-    (member as usize - 1) * 32 + (security as usize - 1)
-}
-
-fn member_at(place: usize) -> u8
-    requires { ⌜ place < 2016 ⌝ }
-    ensures { λ r. ⌜ r ≡ place / 32 + 1 ⌝ }
-{
-    (place / 32 + 1) as u8
-}
-
-fn security_at(place: usize) -> u16
-    ensures { λ r. ⌜ r ≡ place % 32 + 1 ⌝ }
-{
-    (place % 32 + 1) as u16
+    let key = 32 * (member as usize - 1) + (security as usize - 1);
+    match side {
+        Side::Sale => 2 * key,
+        Side::Purchase => 2 * key + 1,
+    }
 }
 
 fn party(side: Side, trade: Trade) -> u8
     ensures { λ r. ⌜ r ≡ partyOf side trade ⌝ }
 {
     match side {
-        Side::Purchase => trade.buyer,
         Side::Sale => trade.seller,
+        Side::Purchase => trade.buyer,
     }
 }
 
@@ -88,40 +87,34 @@ fn with_trade(total: Total, trade: Trade) -> Total
     }
 }
 
-// The totals of today's trades, on one side, in one pass over them.
-fn gather(trades: Trades, side: Side) -> Totals
-    requires { ⌜ Gatherable trades ⌝ }
-    ensures { λ r. ⌜ Gathered trades side r ⌝ }
+// One more trade in the total of its party on a side.
+fn raise(totals: &mut [u32; 8064], side: Side, trade: Trade)
+    requires { ⌜ Raisable (now totals) side trade ⌝ }
+    ensures { λ _. ⌜ (totalsOf (now (totals .exit)) ≡ raised side trade (totalsOf (now (totals .entry)))) × (length (now (totals .exit)) ≡ 8064) ⌝ }
 {
-    let mut totals = no_totals();
-    let count = trades.count;
-    let mut i = trades.netted;
-    while i < count {
-        let trade = trades.items[i];
-        let member = party(side, trade);
-        let place = place_of(member, trade.security);
-        let total = totals.items[place];
-        let more = with_trade(total, trade);
-        totals.items[place] = more;
-        i += 1;
-    }
-    totals
+    let place = place_of(side, party(side, trade), trade.security);
+    let more = with_trade(total_at(totals, place), trade);
+    put_total(totals, place, more);
 }
 
-fn is_made(security: u16, securities: u16, bought: Total, sold: Total) -> bool
-    ensures { λ r. ⌜ r ≡ (leb security securities && not (eqb (bought .units) (sold .units))) ⌝ }
+// The totals of today's trades, in one pass over them.
+fn gather(totals: &mut [u32; 8064], trades: &[u32; 2560], netted: usize, count: usize)
+    requires { ⌜ (Gatherable (tradeTable (now trades) count netted)) × (now totals ≡ noTotals) ⌝ }
+    ensures { λ _. ⌜ Gathered (tradeTable (now (trades .entry)) count netted) (totalsOf (now (totals .exit))) ⌝ }
 {
-    if security <= securities {
-        bought.units != sold.units
-    } else {
-        false
+    let mut i = netted;
+    while i < count {
+        let trade = rows::trade_at(trades, i);
+        raise(totals, Side::Sale, trade);
+        raise(totals, Side::Purchase, trade);
+        i += 1;
     }
 }
 
 // What is sold beyond what is bought is short, at the highest sale; else long, at the highest purchase.
 fn position_of(day: BusinessDay, member: u8, security: u16, bought: Total, sold: Total) -> Position
     requires { ⌜ Unequal day bought sold ⌝ }
-    ensures { λ r. ⌜ netOf (day .0) (record { member = member; security = security }) bought sold ≡ r ∷ [] ⌝ }
+    ensures { λ r. ⌜ netOf (day .0) (keyFor member security) bought sold ≡ r ∷ [] ⌝ }
 {
     let settlement = BusinessDay(day.0 + 2);
     if bought.units < sold.units {
@@ -154,25 +147,72 @@ fn position_of(day: BusinessDay, member: u8, security: u16, bought: Total, sold:
     }
 }
 
-pub fn net_day(table: Positions, trades: Trades, day: BusinessDay, securities: u16) -> Positions
-    requires { ⌜ DayFits table trades day securities ⌝ }
-    ensures { λ r. ⌜ DayNetted table trades day securities r ⌝ }
+// How many positions the table holds with those of one member, by rising security.
+fn net_member(
+    rows: &mut [u32; 10240],
+    totals: &[u32; 8064],
+    day: BusinessDay,
+    member: u8,
+    securities: u16,
+    held: usize,
+) -> usize
+    requires { ⌜ (MemberFits (totalsOf (now totals)) day member securities held) × (length (now rows) ≡ 10240) ⌝ }
+    ensures { λ r. ⌜ (Appended (positionTable (now (rows .entry)) held) (nettedBy (day .0) (totalsOf (now (totals .entry))) (memberKeys securities member)) (positionTable (now (rows .exit)) r)) × (length (now (rows .exit)) ≡ 10240) ⌝ }
 {
-    let purchases = gather(trades, Side::Purchase);
-    let sales = gather(trades, Side::Sale);
-    let mut positions = table;
-    let mut place: usize = 0;
-    while place < PLACES {
-        let security = security_at(place);
-        let bought = purchases.items[place];
-        let sold = sales.items[place];
-        if is_made(security, securities, bought, sold) {
-            let n = positions.count;
-            let position = position_of(day, member_at(place), security, bought, sold);
-            positions.items[n] = position;
-            positions.count = n + 1;
+    let mut n = held;
+    let mut security: u16 = 1;
+    while security <= securities {
+        let bought = total_at(totals, place_of(Side::Purchase, member, security));
+        let sold = total_at(totals, place_of(Side::Sale, member, security));
+        if bought.units != sold.units {
+            let position = position_of(day, member, security, bought, sold);
+            rows::put_row(rows, n, position);
+            n += 1;
         }
-        place += 1;
+        security += 1;
     }
-    positions
+    n
+}
+
+// How many positions the table holds with those that the day's trades make.
+fn net_trades(
+    rows: &mut [u32; 10240],
+    held: usize,
+    trades: &[u32; 2560],
+    netted: usize,
+    count: usize,
+    day: BusinessDay,
+    securities: u16,
+) -> usize
+    requires { ⌜ (DayFits (positionTable (now rows) held) (tradeTable (now trades) count netted) day securities) × (length (now rows) ≡ 10240) ⌝ }
+    ensures { λ r. ⌜ (DayNetted (positionTable (now (rows .entry)) held) (tradeTable (now (trades .entry)) count netted) day securities (positionTable (now (rows .exit)) r)) × (length (now (rows .exit)) ≡ 10240) ⌝ }
+{
+    let mut totals = no_totals();
+    gather(&mut totals, trades, netted, count);
+    let mut n = held;
+    let mut member: u8 = 1;
+    while member <= 63 {
+        n = net_member(rows, &totals, day, member, securities, n);
+        member += 1;
+    }
+    n
+}
+
+// How many positions the table holds with those of the day. A day without trades makes none.
+pub fn net_day(
+    rows: &mut [u32; 10240],
+    held: usize,
+    trades: &[u32; 2560],
+    netted: usize,
+    count: usize,
+    day: BusinessDay,
+    securities: u16,
+) -> usize
+    requires { ⌜ (DayFits (positionTable (now rows) held) (tradeTable (now trades) count netted) day securities) × (length (now rows) ≡ 10240) ⌝ }
+    ensures { λ r. ⌜ (DayNetted (positionTable (now (rows .entry)) held) (tradeTable (now (trades .entry)) count netted) day securities (positionTable (now (rows .exit)) r)) × (length (now (rows .exit)) ≡ 10240) ⌝ }
+{
+    if netted == count {
+        return held;
+    }
+    net_trades(rows, held, trades, netted, count, day, securities)
 }

@@ -9,9 +9,9 @@ use Rattle.events.specs.declared.Event.{Event}
 use Rattle.events.specs.File.{eventsOf}
 use Rattle.plain.specs.Book as plain
 use Rattle.plain.specs.Histories.{run}
-use Rattle.book.specs.declared.Book.{Book}
-use Rattle.book.specs.View.{view, Valid}
-use Rattle.replay.specs.Replay.{callsOf}
+use Rattle.calls.specs.declared.Core.{Core}
+use Rattle.calls.specs.View.{Numbers, bookOf, Held}
+use Rattle.replay.specs.Replay.{callsOf, PlayedUpTo}
 use Rattle.report.specs.Pages.{Wrote, wrote-put, put-length}
 use Rattle.transcript.specs.declared.Played.{Played}
 use Rattle.transcript.specs.Playing.{PlayedOn}
@@ -28,7 +28,7 @@ pub wrote-among : (least : ℕ) (text entry exit : List ℕ) (r : ℕ) → least
 wrote-among least text entry exit r room w =
     among r exit (omega (arith, put-length text entry exit r (wrote-put least text entry exit r room w) (omega (arith, w .most)), w .most))
 
-module _ (file : List ℕ) (b : Book) (from : ℕ) (entry exit : List ℕ) (r : Played) (p : PlayedOn file b from entry exit r) where
+module _ (file : List ℕ) (b : Core) (a : Numbers) (from : ℕ) (entry exit : List ℕ) (z : Numbers) (r : Played) (p : PlayedOn file b a from entry exit z r) where
   pub played-length : length exit ≡ length entry
   played-length = put-length _ entry exit (r .used) (p .text) (p .fits)
 
@@ -36,25 +36,28 @@ module _ (file : List ℕ) (b : Book) (from : ℕ) (entry exit : List ℕ) (r : 
   played-among = among (r .used) exit (omega (arith, played-length, p .fits))
 
 -- what holds between two pages: the events that are left decide the last book
-pub record Between (file : List ℕ) (b : Book) (page : List ℕ) (played : Book) (i : ℕ) : Type 0 where
+pub record Between (file : List ℕ) (b : Core) (a : Numbers) (page : List ℕ) (played : Core) (z : Numbers) (i : ℕ) : Type 0 where
   pub long : length page ≡ 131072
-  pub valid : Valid played
+  pub held : Held played z
   pub place : i ≤ length (eventsOf file)
-  pub book : run (view played) (callsOf (drop i (eventsOf file))) ≡ run (view b) (callsOf (eventsOf file))
+  pub book : run (bookOf played z) (callsOf (drop i (eventsOf file))) ≡ run (bookOf b a) (callsOf (eventsOf file))
 
-pub next-page : (file : List ℕ) (b : Book) (entry exit : List ℕ) (played : Book) (i : ℕ) (r : Played) → Between file b entry played i → PlayedOn file played i entry exit r → Between file b exit (r .book) (r .next)
-next-page file b entry exit played i r h p =
+pub next-page : (file : List ℕ) (b : Core) (a : Numbers) (entry exit : List ℕ) (played : Core) (z y : Numbers) (i : ℕ) (r : Played) → Between file b a entry played z i → PlayedOn file played z i entry exit y r → Between file b a exit (r .core) y (r .next)
+next-page file b a entry exit played z y i r h p =
     record {
-      long = played-length file played i entry exit r p ∙ h .long;
-      valid = p .valid;
+      long = played-length file played z i entry exit y r p ∙ h .long;
+      held = p .held;
       place = omega (arith, p .within, h .place);
       book =
           ap (λ (q : plain.Book). run q (callsOf (drop (r .next) (eventsOf file)))) (p .book)
-          ∙ run-rest (eventsOf file) i (r .next) (p .reached) (view played)
+          ∙ run-rest (eventsOf file) i (r .next) (p .reached) (bookOf played z)
           ∙ h .book;
     }
 
-pub all-played : (file : List ℕ) (b : Book) (page : List ℕ) (played : Book) (i : ℕ) → Between file b page played i → length (eventsOf file) ≤ i → view played ≡ run (view b) (callsOf (eventsOf file))
+pub all-played : (file : List ℕ) (b : Core) (a : Numbers) (page : List ℕ) (played : Core) (z : Numbers) (i : ℕ) → Between file b a page played z i → length (eventsOf file) ≤ i → PlayedUpTo b a (eventsOf file) played z
 unfolding run
-all-played file b page played i h end =
-    sym (ap (λ (es : List Event). run (view played) (callsOf es)) (drop-of-length-le (eventsOf file) {i = i} end)) ∙ h .book
+all-played file b a page played z i h end =
+    record {
+      held = h .held;
+      book = sym (ap (λ (es : List Event). run (bookOf played z) (callsOf es)) (drop-of-length-le (eventsOf file) {i = i} end)) ∙ h .book;
+    }

@@ -1,13 +1,14 @@
 // The player: a register and a file of events from standard input, and what becomes of them on standard output.
 // What it prints is the definition `transcript`, block by block (`transcript/specs/Whole.antt`). Only the copying from standard input and
 // of pages to standard output is outside the proofs.
+ghost use Prim.Native.Nat.{ℕ};
 ghost use mathlib.Core.Path.{_≡_};
+ghost use mathlib.Core.List.{List};
 ghost use lib.ListN.{length};
 ghost use Rattle.events.specs.File.{eventsOf};
-ghost use Rattle.plain.specs.Histories.{run};
-ghost use Rattle.book.specs.View.{view, Valid};
-ghost use Rattle.replay.specs.Replay.{callsOf};
-use book::Book;
+ghost use Rattle.calls.specs.View.{numbers, Held};
+ghost use Rattle.replay.specs.Replay.{PlayedUpTo, NewlyHeld};
+use calls::Core;
 use libc::STDIN_FILENO;
 use libc::STDOUT_FILENO;
 
@@ -24,32 +25,72 @@ fn print_refusal(number: u8) {
     io::write_all(STDOUT_FILENO, &page[..used]);
 }
 
-// Prints all events of a file, page by page. The book after them is answered.
-fn print_events(file: &[u8], book: Book) -> Book
-    requires { ⌜ Valid book ⌝ }
-    ensures { λ r. ⌜ (Valid r) × (view r ≡ run (view book) (callsOf (eventsOf (now (file .entry))))) ⌝ }
+// Prints all events of a file, page by page, each on the lent tables. The core after them is answered.
+fn print_events(
+    page: &mut [u8],
+    file: &[u8],
+    core: Core,
+    rows: &mut [u32; 10240],
+    trades: &mut [u32; 2560],
+    awards: &mut [u32; 1280],
+    counts: &mut [u32; 2048],
+    sheet: &mut [u64; 4096],
+) -> Core
+    requires { ⌜ (Held core (numbers (now rows) (now trades) (now awards) (now counts))) × (length (now sheet) ≡ 4096) × (length (now page) ≡ 131072) ⌝ }
+    ensures { λ r. ⌜ (PlayedUpTo core (numbers (now (rows .entry)) (now (trades .entry)) (now (awards .entry)) (now (counts .entry))) (eventsOf (now (file .entry))) r (numbers (now (rows .exit)) (now (trades .exit)) (now (awards .exit)) (now (counts .exit)))) × (length (now (page .exit)) ≡ 131072) ⌝ }
 {
-    let mut page = blank_page();
     let count = events::events_in(file) as usize;
-    let mut played = book;
+    let mut played = core;
     let mut i: usize = 0;
     while i < count {
-        let some = transcript::play_events(&mut page, file, played, i);
+        let some = transcript::play_events(
+            page,
+            file,
+            played,
+            rows,
+            trades,
+            awards,
+            counts,
+            sheet,
+            i,
+        );
         let used = some.used;
         io::write_all(STDOUT_FILENO, &page[..used]);
-        let after = some.book;
+        let after = some.core;
         played = after;
         i = some.next;
     }
     played
 }
 
-fn print_end(book: Book)
-    requires { ⌜ Valid book ⌝ }
+fn print_end(page: &mut [u8], core: Core, rows: &[u32; 10240])
+    requires { ⌜ ((trades awards counts : List ℕ) × Held core (numbers (now rows) trades awards counts)) × (length (now page) ≡ 131072) ⌝ }
+{
+    let used = transcript::end_lines(page, core, rows);
+    io::write_all(STDOUT_FILENO, &page[..used]);
+}
+
+// The file is played on a new book, whose tables stand here.
+fn print_played(file: &[u8], core: Core)
+    requires { ⌜ NewlyHeld core ⌝ }
 {
     let mut page = blank_page();
-    let used = transcript::end_lines(&mut page, book);
-    io::write_all(STDOUT_FILENO, &page[..used]);
+    let mut rows = calls::blank_rows();
+    let mut trades = calls::blank_trades();
+    let mut awards = calls::blank_awards();
+    let mut counts = calls::no_counts();
+    let mut sheet = pieces::blank_numbers();
+    let after = print_events(
+        &mut page,
+        file,
+        core,
+        &mut rows,
+        &mut trades,
+        &mut awards,
+        &mut counts,
+        &mut sheet,
+    );
+    print_end(&mut page, after, &rows);
 }
 
 fn print_transcript(input: &[u8]) {
@@ -60,9 +101,8 @@ fn print_transcript(input: &[u8]) {
         return;
     }
     let file = started.file;
-    let book = started.book;
-    let after = print_events(&input[file..], book);
-    print_end(after);
+    let core = started.core;
+    print_played(&input[file..], core);
 }
 
 // The largest input that is not refused has 35,238 bytes. Of a longer one the first 65,536 print the same (`transcript/specs/Cut.antt`).

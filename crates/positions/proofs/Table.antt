@@ -15,7 +15,7 @@ use Rattle.plain.specs.Dealing.{lowering}
 use Rattle.plain.proofs.Accepted.{Within}
 use Rattle.plain.proofs.Invariants.{Whole}
 use Rattle.plain.proofs.Order.{takers-in-order}
-use Rattle.tables.specs.declared.Positions.{Positions}
+use Rattle.tables.specs.Tables.{Positions}
 use Rattle.tables.specs.Tables as tables
 use Rattle.positions.specs.Dealing.{positionOf, loweredBy, Sized, Lowerable, Dealing, dealtOut, DealtOut}
 use Rattle.positions.proofs.Shares.{handed}
@@ -30,7 +30,7 @@ module _ (table : Positions) (day short quantity : ℕ) (h : Dealing table day s
   abbrev ps : List Position
   ps = tables.positions table
 
-  own-is : positionOf table short ≡ own
+  pub own-is : positionOf table short ≡ own
   unfolding tables.positions
   own-is = getD-take (table .count) (table .items) (short - 1) noPosition (omega (arith, h .held .above, h .held .below))
 

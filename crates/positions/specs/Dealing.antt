@@ -1,5 +1,6 @@
 -- Document 01, 'Discharge and pieces': a discharge of a short, dealt out over the machine's table of positions.
-use Prim.Native.Nat.{ℕ, _+_, _-_, _≤_, min}
+use Prim.Native.Nat.{ℕ, _+_, _-_, _≤_, _<_, min}
+use lib.ListN.{length, getD}
 use mathlib.Core.Path.{_≡_}
 use mathlib.Core.List.{List}
 use mathlib.Core.Bool.{true}
@@ -13,9 +14,11 @@ use Rattle.plain.specs.Book.{noPosition, nth}
 use Rattle.plain.specs.Dealing.{mannerNumber, due, longOf, takers, dealTo, lowering}
 use Rattle.plain.proofs.Accepted.{Within}
 use Rattle.plain.proofs.Invariants.{Rising, Whole, dueLong, openOf}
-use Rattle.tables.specs.declared.Positions.{Positions}
+use Rattle.tables.specs.Tables.{Positions}
 use Rattle.tables.specs.Tables as tables
-use Rattle.positions.specs.declared.Dealt.{Dealt}
+use Rattle.tables.specs.Lent.{positionTable, pieceTable, rowOf}
+use Rattle.rows.specs.Rows.{rowsOf}
+use Rattle.tables.specs.declared.Pieces.{Pieces}
 
 -- position n of the table
 abbrev pub positionOf : Positions → ℕ → Position
@@ -76,6 +79,11 @@ abbrev pub dealtOut : Positions → ℕ → ℕ → ℕ → Manner → List Piec
 dealtOut table day short quantity manner =
     dealTo manner short (takers day (positionOf table short .security) (tables.positions table)) quantity
 
+-- a table after a discharge, and the discharge's pieces
+pub record Dealt : Type 0 where
+  pub positions : Positions
+  pub pieces : Pieces
+
 -- what dealing gives: the pieces, and the table whose "open quantities .. fall by each piece on both sides"
 pub record DealtOut (table : Positions) (day short quantity : ℕ) (manner : Manner) (r : Dealt) : Type 0 where
   pub pieces : tables.pieces (r .pieces) ≡ dealtOut table day short quantity manner
@@ -83,3 +91,24 @@ pub record DealtOut (table : Positions) (day short quantity : ℕ) (manner : Man
   pub pieces-fit : tables.PiecesFit (r .pieces)
   pub positions-fit : tables.PositionsFit (r .positions)
   pub count : r .positions .count ≡ table .count
+
+-- none of the first n positions is an open long of the security
+unfoldable pub ClosedBefore : ℕ → List Position → ℕ → Type 0
+ClosedBefore security items n = (j : ℕ) → j < n → longOf security (getD items j noPosition) ≡ true → getD items j noPosition .unsettled ≡ 0
+
+-- what the walk of a discharge asks of the lent table and sheet, and of the place where it starts
+pub record Walkable (rows sheet : List ℕ) (count day short quantity start : ℕ) : Type 0 where
+  pub dealing : Dealing (positionTable rows count) day short quantity
+  pub some : 0 < quantity
+  pub rows-length : length rows ≡ 10240
+  pub sheet-length : length sheet ≡ 4096
+  pub within : start ≤ count
+  pub closed : ClosedBefore (rowOf rows short .security) (rowsOf rows) start
+
+-- what it leaves in them, the number of pieces, and the place where it ended
+pub record Walked (rows : List ℕ) (count day short quantity : ℕ) (manner : Manner) (after sheet : List ℕ) (pieces end : ℕ) : Type 0 where
+  pub dealt : DealtOut (positionTable rows count) day short quantity manner (record { positions = positionTable after count; pieces = pieceTable manner sheet pieces })
+  pub rows-length : length after ≡ 10240
+  pub sheet-length : length sheet ≡ 4096
+  pub within : end ≤ count
+  pub closed : ClosedBefore (rowOf rows short .security) (rowsOf after) end

@@ -1,33 +1,15 @@
 // A discharge dealt out over the table of positions, in place.
 // Document 01, 'Discharge and pieces'.
 ghost use mathlib.Core.Path.{_≡_};
-ghost use lib.ListN.{length};
 ghost use Rattle.positions.specs.Dealing as spec;
 use laws::BusinessDay;
 use plain::Manner;
-use plain::Piece;
 use plain::Position;
-use tables::Pieces;
-use tables::Positions;
 
-// The table after a discharge, and the discharge's pieces.
-pub struct Dealt {
-    pub positions: Positions,
-    pub pieces: Pieces,
-}
-
-// An array of its own function, so that what calls it knows its length alone.
-fn blank_pieces() -> [Piece; 1024]
-    ensures { λ r. ⌜ length r ≡ 1024 ⌝ }
-{
-    let none = Piece {
-        short: 0,
-        long: 0,
-        quantity: 0,
-        manner: Manner::Delivered,
-        cents: 0,
-    };
-    [none; 1024]
+// How many pieces a discharge has, and the place where its walk was left: no long of the security before it is open.
+pub struct Left {
+    pub pieces: usize,
+    pub end: usize,
 }
 
 // What a position takes of what is left, 0 where it is no long of the security.
@@ -67,48 +49,39 @@ fn lowered_by(p: Position, manner: Manner, units: u32) -> Position
     after
 }
 
-// A piece as it is dealt; it is priced later.
-fn piece_of(manner: Manner, short: u16, long: u16, units: u32) -> Piece
-    ensures { λ r. ⌜ r ≡ spec.pieceOf manner short long units ⌝ }
-{
-    Piece {
-        short: short,
-        long: long,
-        quantity: units,
-        manner: manner,
-        cents: 0,
-    }
-}
-
 // The table is in order of rising delivery days, so the walk steps along it from day to day, and within a day from
-// position to position; it is left as soon as the quantity is dealt out.
-// Arrays and counts stay apart until the end: the compiler copies a struct whose array is changed at an index that
-// varies.
-pub fn deal(table: Positions, day: BusinessDay, short: u16, quantity: u32, manner: Manner) -> Dealt
-    requires { ⌜ spec.Dealing table (day .0) short quantity ⌝ }
-    ensures { λ r. ⌜ spec.DealtOut table (day .0) short quantity manner r ⌝ }
+// position to position; it is left as soon as the quantity is dealt out. It starts where the first open long may be. The table is lent, and changed where it stands.
+pub fn deal(
+    rows: &mut [u32; 10240],
+    sheet: &mut [u64; 4096],
+    count: usize,
+    day: BusinessDay,
+    short: u16,
+    quantity: u32,
+    manner: Manner,
+    start: usize,
+) -> Left
+    requires { ⌜ spec.Walkable (now rows) (now sheet) count (day .0) short quantity start ⌝ }
+    ensures { λ r. ⌜ spec.Walked (now (rows .entry)) count (day .0) short quantity manner (now (rows .exit)) (now (sheet .exit)) (r .pieces) (r .end) ⌝ }
 {
-    let count = table.count;
-    let mut items = table.items;
     let place = (short - 1) as usize;
-    let own = items[place];
-    items[place] = lowered_by(own, manner, quantity);
-    let mut shares = blank_pieces();
+    let own = rows::row_at(rows, place);
+    rows::put_row(rows, place, lowered_by(own, manner, quantity));
     let mut dealt: usize = 0;
     let mut left = quantity;
-    let mut i: usize = 0;
+    let mut i = start;
     'deal: while i < count {
-        let settlement = items[i].settlement.0;
+        let settlement = rows::settlement_at(rows, i);
         if day.0 < settlement {
             break 'deal;
         }
-        while i < count && items[i].settlement.0 == settlement {
-            let long = items[i];
+        while i < count && rows::settlement_at(rows, i) == settlement {
+            let long = rows::row_at(rows, i);
             let units = share_of(long, own.security, left);
             if 0 < units {
-                shares[dealt] = piece_of(manner, short, (i + 1) as u16, units);
+                pieces::put_piece(sheet, dealt, short, (i + 1) as u16, units);
                 dealt += 1;
-                items[i] = lowered_by(long, manner, units);
+                rows::put_row(rows, i, lowered_by(long, manner, units));
                 left -= units;
                 if left == 0 {
                     break 'deal;
@@ -117,10 +90,8 @@ pub fn deal(table: Positions, day: BusinessDay, short: u16, quantity: u32, manne
             i += 1;
         }
     }
-    let positions = Positions { items, count };
-    let pieces = Pieces {
-        items: shares,
-        count: dealt,
-    };
-    Dealt { positions, pieces }
+    Left {
+        pieces: dealt,
+        end: i,
+    }
 }

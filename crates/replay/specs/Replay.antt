@@ -18,7 +18,11 @@ use Rattle.plain.specs.Book.{Book, new}
 use Rattle.plain.specs.Calls.{Call, call}
 use Rattle.plain.specs.Refusals as plain
 use Rattle.plain.specs.Histories.{run, quantity}
-use Rattle.book.specs.View.{view, Valid, numberOf, quantityOf}
+use Rattle.kept.specs.View.{numberOf, quantityOf}
+use Rattle.calls.specs.declared.Core.{Core}
+use Rattle.calls.specs.View.{Numbers, bookOf, Held, Blank}
+use Rattle.book.specs.View.{view, Valid}
+use Rattle.replay.specs.declared.Checked.{Checked}
 use Rattle.replay.specs.declared.Replayed.{Replayed}
 
 -- the refusals 1 to 4 of the register, then 5 to 7 of the file, all before any event is played
@@ -33,11 +37,24 @@ replayRefusal register file =
 abbrev pub callsOf : List Event → List Call
 callsOf events = map (λ e. call e 1024) events
 
--- what is answered before any event is played: the refusal, or 0; the new book of the register that was read, which calls take where nothing is refused
-pub record ReadyFor (register file : List ℕ) (r : Replayed) : Type 0 where
+-- a core that no call was made on yet: calls may be made on it with any blank numbers, with which it stands for one plain book
+abbrev pub NewlyHeld : Core → Type 0
+NewlyHeld b = (a : Numbers) → Blank a → Held b a
+
+abbrev pub OpensAs : Core → Book → Type 0
+OpensAs b new = (a : Numbers) → Blank a → bookOf b a ≡ new
+
+-- what is answered before any event is played: the refusal, or 0; the new book of the register that was read, with which calls are made where nothing
+-- is refused
+pub record ReadyFor (register file : List ℕ) (r : Checked) : Type 0 where
   pub number : r .number ≡ replayRefusal register file
-  pub book : view (r .book) ≡ new (registerRead register .register)
-  pub valid : r .number ≡ 0 → Valid (r .book)
+  pub book : OpensAs (r .core) (new (registerRead register .register))
+  pub held : r .number ≡ 0 → NewlyHeld (r .core)
+
+-- what playing some events on a core with its numbers leaves
+pub record PlayedUpTo (b : Core) (a : Numbers) (events : List Event) (after : Core) (z : Numbers) : Type 0 where
+  pub held : Held after z
+  pub book : bookOf after z ≡ run (bookOf b a) (callsOf events)
 
 -- what replaying answers: the refusal, or 0; the new book after all events of the file, or after none where something is refused;
 -- and a book that further calls take, where nothing is

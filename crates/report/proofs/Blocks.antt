@@ -3,7 +3,7 @@ use Prim.Native.Nat.{ℕ, zero, suc, _+_, _-_, _*_, _≤_, _<_, min}
 use native.Mathlib.Numerals.{add-one}
 use native.Mathlib.Omega.{arith}
 use mathlib.Core.Path.{_≡_, refl, ap, sym, _∙_, subst}
-use mathlib.Core.List.{List, [], _∷_, _++_, append-nil}
+use mathlib.Core.List.{List, [], _∷_, _++_, append-nil, map}
 use lib.ListN.{length, getD, take, drop, length-append, take-append-drop}
 use lib.Seq.{take-suc, take-take, take-all, getD-take, length-take-le}
 use lib.Dec.{ltb}
@@ -13,8 +13,7 @@ use Rattle.laws.specs.Lists.{each, range}
 use Rattle.laws.specs.Listed.{each-append, length-range, getD-range}
 use Rattle.plain.specs.declared.Position.{Position}
 use Rattle.plain.specs.Book.{nth, noPosition}
-use Rattle.tables.specs.declared.Positions.{Positions}
-use Rattle.tables.specs.Tables.{PositionsFit, positions}
+use Rattle.tables.specs.Tables.{Positions, PositionsFit, positions}
 use Rattle.report.specs.Lines.{positionLine, positionLines}
 use Rattle.report.specs.Pages.{Put, Wrote, lent, back, put-lent, put-length, wrote-lent}
 
@@ -71,15 +70,15 @@ take-min xs n m e = go (ask (ltb m n))
         let few : n ≤ m = ltb-false m n l in
         ap (λ (k : ℕ). take k xs) (let same : min n m ≡ n = omega arith in same)
 
+-- the first of what f makes of each
+pub take-map : {A B : Type 0} (f : A → B) (n : ℕ) (xs : List A) → take n (map f xs) ≡ map f (take n xs)
+take-map f zero xs = refl
+take-map f (suc n) [] = refl
+take-map f (suc n) (x ∷ xs) = rw (take-map f n xs)
+
 -- a whole range is taken
 pub take-range : (a n : ℕ) → take n (range a n) ≡ range a n
 take-range a n = take-all n (range a n) (omega (arith, length-range a n))
-
--- what stands at a place is there whatever is said of the places past the end
-getD-any : {A : Type 0} (xs : List A) (i : ℕ) (d e : A) → i < length xs → getD xs i d ≡ getD xs i e
-getD-any [] i d e h = absurd (omega arith)
-getD-any (x ∷ xs) zero d e h = refl
-getD-any (x ∷ xs) (suc i) d e h = getD-any xs i d e (omega arith)
 
 -- ---- positions by their numbers
 
@@ -88,13 +87,13 @@ abbrev pub positionText : List Position → ℕ → List ℕ
 positionText ps n = positionLine n (nth noPosition ps n)
 
 -- the position at an index, counted from 0, and its line
-pub position-here : (table : Positions) (i : ℕ) (d : Position) → PositionsFit table → i < table .count → positionLine (i + 1) (getD (table .items) i d) ≡ positionText (positions table) (getD (range 1 (table .count)) i 0)
+pub position-here : (table : Positions) (i : ℕ) → i < table .count → positionLine (i + 1) (getD (table .items) i noPosition) ≡ positionText (positions table) (getD (range 1 (table .count)) i 0)
 unfolding positions
-position-here table i d fit h =
+position-here table i h =
     let n : getD (range 1 (table .count)) i 0 ≡ i + 1 = getD-range 1 (table .count) i 0 h ∙ omega arith in
     let j : i + 1 - 1 ≡ i = omega arith in
-    let p : getD (table .items) i d ≡ nth noPosition (take (table .count) (table .items)) (i + 1) =
-    getD-any (table .items) i d noPosition (omega (arith, fit .places, fit .held)) ∙ sym (getD-take (table .count) (table .items) i noPosition h) ∙ ap (λ (k : ℕ). getD (take (table .count) (table .items)) k noPosition) (sym j) in
+    let p : getD (table .items) i noPosition ≡ nth noPosition (take (table .count) (table .items)) (i + 1) =
+    sym (getD-take (table .count) (table .items) i noPosition h) ∙ ap (λ (k : ℕ). getD (take (table .count) (table .items)) k noPosition) (sym j) in
     ap (positionLine (i + 1)) p ∙ ap (positionText (take (table .count) (table .items))) (sym n)
 
 pub positions-all : (table : Positions) → PositionsFit table → each (positionText (positions table)) (take (table .count) (range 1 (table .count))) ≡ positionLines (positions table)

@@ -6,14 +6,16 @@ ghost use mathlib.Core.List.{_∷_, [], _++_};
 ghost use Prim.Native.Nat.{_+_, _*_, _≤_, min};
 ghost use lib.IntN.{subℕ};
 ghost use lib.ListN.{length, take};
-ghost use Rattle.tables.specs.Tables.{PositionsFit, positions};
+ghost use Rattle.pieces.specs.Sheet.{piecesOf};
+ghost use Rattle.tables.specs.Tables.{positions};
+ghost use Rattle.tables.specs.Lent.{positionTable};
 ghost use Rattle.report.specs.Digits.{digits};
 ghost use Rattle.report.specs.Lines.{LINE, accountLine, accountLines, amount, balanceText, eventLine, eventLines, field, number, numbers, pieceLine, pieceLines, positionLine, positionLines, refusalLine, side, signed};
 ghost use Rattle.report.specs.Pages.{Put, Wrote};
 use plain::Ledger;
+use plain::Manner;
 use plain::Piece;
 use plain::Position;
-use tables::Positions;
 
 // A page that a line is written into has at least as many bytes.
 const LINE: usize = 80;
@@ -211,8 +213,9 @@ fn at_most(count: usize) -> usize
 }
 
 // The lines of the first `count` pieces, of all 1,024 if `count` is more. The page has at least 80 bytes for each.
-pub fn piece_lines(page: &mut [u8], pieces: [Piece; 1024], count: usize) -> usize
-    ensures { λ r. ⌜ Wrote (LINE * min count 1024) (pieceLines (take count pieces)) (now (page .entry)) (now (page .exit)) r ⌝ }
+// A line does not tell the manner of its piece.
+pub fn piece_lines(page: &mut [u8], sheet: &[u64; 4096], count: usize) -> usize
+    ensures { λ r. ⌜ ((m : Manner) → Wrote (LINE * min count 1024) (pieceLines (take count (piecesOf m (now (sheet .entry))))) (now (page .entry)) (now (page .exit)) r) ⌝ }
 {
     let stop = at_most(count);
     if page.len() < LINE * stop {
@@ -221,7 +224,7 @@ pub fn piece_lines(page: &mut [u8], pieces: [Piece; 1024], count: usize) -> usiz
     let mut at: usize = 0;
     let mut i: usize = 0;
     while i < stop {
-        let piece = pieces[i];
+        let piece = pieces::piece_at(sheet, i, Manner::Delivered);
         at += piece_line(&mut page[at..], piece);
         i += 1;
     }
@@ -234,32 +237,31 @@ pub fn event_lines(
     number: u32,
     refusal: u8,
     quantity: u32,
-    pieces: [Piece; 1024],
+    sheet: &[u64; 4096],
     count: usize,
 ) -> usize
-    ensures { λ r. ⌜ Wrote (LINE * (1 + min count 1024)) (eventLines number refusal quantity (take count pieces)) (now (page .entry)) (now (page .exit)) r ⌝ }
+    ensures { λ r. ⌜ ((m : Manner) → Wrote (LINE * (1 + min count 1024)) (eventLines number refusal quantity (take count (piecesOf m (now (sheet .entry))))) (now (page .entry)) (now (page .exit)) r) ⌝ }
 {
     let stop = at_most(count);
     if page.len() < LINE * (1 + stop) {
         return 0;
     }
     let at = event_line(page, number, refusal, quantity);
-    at + piece_lines(&mut page[at..], pieces, count)
+    at + piece_lines(&mut page[at..], sheet, count)
 }
 
-// The lines of all positions, by rising number from 1. The page has at least 80 bytes for each.
-pub fn position_lines(page: &mut [u8], table: Positions) -> usize
-    requires { ⌜ PositionsFit table ⌝ }
-    ensures { λ r. ⌜ Wrote (LINE * (table .count)) (positionLines (positions table)) (now (page .entry)) (now (page .exit)) r ⌝ }
+// The lines of the first `count` positions, by rising number from 1. The page has at least 80 bytes for each.
+pub fn position_lines(page: &mut [u8], rows: &[u32; 10240], count: usize) -> usize
+    requires { ⌜ count ≤ 1024 ⌝ }
+    ensures { λ r. ⌜ Wrote (LINE * count) (positionLines (positions (positionTable (now (rows .entry)) count))) (now (page .entry)) (now (page .exit)) r ⌝ }
 {
-    let count = table.count;
     if page.len() < LINE * count {
         return 0;
     }
     let mut at: usize = 0;
     let mut i: usize = 0;
     while i < count {
-        let position = table.items[i];
+        let position = rows::row_at(rows, i);
         at += position_line(&mut page[at..], (i + 1) as u16, position);
         i += 1;
     }

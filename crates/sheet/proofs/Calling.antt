@@ -74,8 +74,7 @@ use Rattle.sheet.proofs.reported.Symbol as reported-def
 use Rattle.sheet.proofs.reported.Symbol.{name as #sheet·reported}
 use Rattle.sheet.proofs.reported.Met as reported-thm
 
--- what a call takes besides the book and the sheet: its type, with its laws and machine values; the event that it stands for; and what the
--- core's call says of its answer
+-- what a call takes besides the book and the sheet: its type, with its laws and machine values; and the event that it stands for
 pub record Argument : Type 2 where
   pub row : RattleType
   pub mir : Ty
@@ -86,8 +85,6 @@ pub record Argument : Type 2 where
   pub last : (x : row .Denot) → Last (row .exit yes) x
   pub silent : (x : row .Denot) (l : Last (row .exit yes) x) → left (row .exit yes) x l ≡ ftrue
   pub event : row .Denot → Event
-  pub Answer : Book → ℕ → row .Denot → Discharged → Type 0
-  pub stepped : (b : Book) (n : ℕ) (x : row .Denot) (r : Discharged) → Answer b n x r → Stepped b (event x) n r
 
 abbrev answer : Discharged → Val
 answer r = LL.val D.the-type D′.the-laws r
@@ -193,7 +190,7 @@ module _ (R : Argument) where
 
     abbrev core-clauses : Clauses 𝓤 core-ended
     core-clauses κs a =
-        record { ghost = Unit {0}; requires = λ g. fact 𝓤 (Valid (a .0)); ensures = λ g r e. fact 𝓤 (R .Answer (a .0) (a .1 .0) (a .1 .1 .0) r) }
+        record { ghost = Unit {0}; requires = λ g. fact 𝓤 (Valid (a .0)); ensures = λ g r e. fact 𝓤 (Stepped (a .0) (R .event (a .1 .1 .0)) (a .1 .0) r) }
 
     abbrev Call : Contract 𝓤
     Call = tripleOf 𝓤 H A signature (closing 𝓤 H A ended clauses)
@@ -203,8 +200,8 @@ module _ (R : Argument) where
 
     -- of what the core's call ensures, the fact alone
     core-says : (b : Book) (n : ℕ) (x : R .row .Denot) (r : Discharged)
-        → ent 𝓤 (ensured 𝓤 H A core-ended core-clauses tt (b, (n, (x, tt))) tt r) (fact 𝓤 (R .Answer b n x r))
-    core-says b n x r = exE 𝓤 _ (λ ws. snd∗ 𝓤 (sem 𝓤 H A (lasts core-ended tt (b, (n, (x, tt))) ws)) (fact 𝓤 (R .Answer b n x r)))
+        → ent 𝓤 (ensured 𝓤 H A core-ended core-clauses tt (b, (n, (x, tt))) tt r) (fact 𝓤 (Stepped b (R .event x) n r))
+    core-says b n x r = exE 𝓤 _ (λ ws. snd∗ 𝓤 (sem 𝓤 H A (lasts core-ended tt (b, (n, (x, tt))) ws)) (fact 𝓤 (Stepped b (R .event x) n r)))
 
     module _ (W : Given 𝓤 H A) (κ : Lft) (q : Share) (b o : ℕ) (γ : GName) (ys : List Piece) (k : Book) (x : R .row .Denot)
         (k-is : Is B.the-row k (LL.vals B.the-type B′.the-laws k)) (x-is : Is (R .row) x (R .val x ∷ [])) (room : Room T.the-row (length ys)) (valid : Valid k) where
@@ -284,7 +281,7 @@ module _ (R : Argument) where
             use0 W (raw (Core .pre to-core)) goes-core $
             calls-at ! fm Core known-core to-core (and-then ! (load ! (from ! (stop !)) (look ! 15 refl)) (and-then ! (load ! (from ! (stop !)) (look ! 9 refl)) (and-then ! (load ! (from ! (stop !)) (look ! 11 refl)) (no-more !)))) (λ v.
             use1 W (later (some (λ (r : Discharged). (‵ ftrue ⊛ ‵ (D.the-row .own r (v ∷ []))) ⊛ raw (ensured 𝓤 H A core-ended core-clauses tt (k, (length ys, (x, tt))) tt r)))) (id⊢ 𝓤 _) $ await ! tt $ pick ! (λ r.
-            split ! $ move ! (1 ∷ []) $ use1 W (raw (fact 𝓤 (R .Answer k (length ys) x r))) (core-says k (length ys) x r) $ heard ! (R .Answer k (length ys) x r) (λ an.
+            split ! $ move ! (1 ∷ []) $ use1 W (raw (fact 𝓤 (Stepped k (R .event x) (length ys) r))) (core-says k (length ys) x r) $ heard ! (Stepped k (R .event x) (length ys) r) (λ an.
             split ! $ move ! (1 ∷ []) $ peeks ! D.the-row (Is D.the-row) (shows 𝓤 H A D.the-row) r (v ∷ []) (λ is.
             land ! (from ! (stop !)) (init ! 8 refl (LL.lawful D.the-type D′.the-laws 𝓤 H A W .typed r _ is .0)) $
             rewrite ! 8 (λ (u : Val). ‵ (fat fullShare D′.mir l₅ 0 u)) (ap only (LL.tells D.the-type D′.the-laws r _ is)) refl $ drop ! $ drop ! $
@@ -292,7 +289,7 @@ module _ (R : Argument) where
             assigns ! (addr ! (from ! (fld ! refl (hop ! (look-in ! 12 (sub ! 0 refl (whole !))) (stop !))))) (from ! (stop !)) (init ! 2 refl (tt, tt)) $
             assigns ! (agg ! (and-then ! (load ! (from ! (stop !)) (look ! 2 refl)) (and-then ! (load ! (from ! (fld ! refl (stop !))) (look-in ! 12 (sub ! 1 refl (whole !)))) (no-more !)))) (from ! (stop !)) (init ! 0 refl (tt, (tt, (record { fits = room .0 }, tt)))) $
             -- `fill`
-            move ! (19 ∷ []) $ fsplit ! $ move ! (1 ∷ []) $ fsplit ! $ move ! (21 ∷ 0 ∷ []) $ use2 W (raw (Fill 𝓤 H A mem run .pre (to-fill r))) (goes-fill r (R .stepped k (length ys) x r an) (pieces-is r v is)) $
+            move ! (19 ∷ []) $ fsplit ! $ move ! (1 ∷ []) $ fsplit ! $ move ! (21 ∷ 0 ∷ []) $ use2 W (raw (Fill 𝓤 H A mem run .pre (to-fill r))) (goes-fill r (an) (pieces-is r v is)) $
             -- [`fill`'s pre; what the argument owns; what the book owns; _8; …]
             calls-at ! fm (Fill 𝓤 H A mem run) known-fill (to-fill r) (and-then ! (load ! (from ! (stop !)) (look ! 3 refl)) (and-then ! (load ! (from ! (fld ! pieces-at (stop !))) (look-in ! 9 (pieces-part ! l₅ r))) (no-more !))) (λ v₁.
             use1 W (later (some (λ (u : Unit {0}). ((‵ (flft κ q) ⊛ ‵ ftrue) ⊛ ‵ (unit .own u (v₁ ∷ []))) ⊛ raw (ensured 𝓤 H A fill.ended (fill.clauses 𝓤 H A mem run) (κ, tt) (sheet, (r .pieces, tt)) tt u)))) (id⊢ 𝓤 _) $ await ! tt $ pick ! (λ u.
@@ -311,7 +308,7 @@ module _ (R : Argument) where
             rewrite ! 24 (λ (y : Val). ‵ (fat fullShare N′.mir l₀ 0 y)) (ap only (LL.tells N.the-type N′.the-laws w _ iw)) refl $ drop ! $ drop ! $
             returns ! (look ! 22 refl) $ forget ! 6 refl $ forget ! 8 refl $ forget ! 10 refl $ forget ! 12 refl $ forget ! 14 refl $ forget ! 16 refl $ forget ! 18 refl $ forget ! 20 refl $ forget ! 22 refl $
             move ! (22 ∷ 23 ∷ []) $ free1 ! $ move ! (20 ∷ 21 ∷ []) $ free1 ! $ move ! (18 ∷ 19 ∷ []) $ free1 ! $ move ! (16 ∷ 17 ∷ []) $ free1 ! $ move ! (14 ∷ 15 ∷ []) $ free1 ! $ move ! (12 ∷ 13 ∷ []) $ free1 ! $ move ! (10 ∷ 11 ∷ []) $ free1 ! $ move ! (8 ∷ 9 ∷ []) $ free1 ! $ move ! (6 ∷ 7 ∷ []) $ free1 ! $ free0 ! $
-            keep ! (1 ∷ 2 ∷ 4 ∷ 5 ∷ []) $ by ! (exits r (zs .0) w (R .stepped k (length ys) x r an) e same l (spelled N.the-type N′.the-laws w _ iw)))))))))))))))))))))))))
+            keep ! (1 ∷ 2 ∷ 4 ∷ 5 ∷ []) $ by ! (exits r (zs .0) w (an) e same l (spelled N.the-type N′.the-laws w _ iw)))))))))))))))))))))))))
 
     module _ (W : Given 𝓤 H A) (𝓣 : Tables 𝓤 H) (key : Name) (known-core : Triple 𝓤 (𝓣 .C key) Core) (known-fill : Triple 𝓤 (𝓣 .C #sheet·fill) (Fill 𝓤 H A mem run)) (known-reported : Triple 𝓤 (𝓣 .C #sheet·reported) (Reported 𝓤 H A mem run)) where
       walks : Walks 𝓤 H A ended stayed (WpFn 𝓤 H (𝓣 .C) (𝓣 .Λ) (code key (R .mir))) clauses

@@ -13,7 +13,6 @@ use events::Cash;
 use events::Confirm;
 use events::Delivery;
 use events::Event;
-use plain::Manner;
 use plain::Outcome;
 use plain::Piece;
 use tables::Pieces;
@@ -97,20 +96,6 @@ pub fn step(book: Book, sheet: &mut [Piece], e: Event) -> Written
     let done = book::step(book, places, e);
     fill(sheet, done.pieces);
     reported(done)
-}
-
-// A sheet of 1,024 places, which is long enough for any call.
-pub fn blank_sheet() -> [Piece; 1024]
-    ensures { λ r. ⌜ length r ≡ 1024 ⌝ }
-{
-    let piece = Piece {
-        short: 0,
-        long: 0,
-        quantity: 0,
-        manner: Manner::Delivered,
-        cents: 0,
-    };
-    [piece; 1024]
 }
 
 fn with_sheet(done: Written, items: [Piece; 1024]) -> WithSheet

@@ -8,12 +8,24 @@ use Rattle.plain.specs.declared.Position.{Position}
 use Rattle.plain.specs.declared.Piece.{Piece}
 use Rattle.plain.specs.declared.Award.{Award}
 use Rattle.plain.specs.Book as plain
-use Rattle.tables.specs.declared.Trades.{Trades}
-use Rattle.tables.specs.declared.Positions.{Positions}
 use Rattle.tables.specs.declared.Pieces.{Pieces}
 use Rattle.tables.specs.declared.Auction.{Auction}
-use Rattle.tables.specs.declared.Awards.{Awards}
 use Rattle.tables.specs.declared.Marks.{Marks}
+
+-- all trades that a book holds; the first `netted` are of earlier days
+pub record Trades : Type 0 where
+  pub items : List Trade
+  pub count : ℕ
+  pub netted : ℕ
+
+pub record Positions : Type 0 where
+  pub items : List Position
+  pub count : ℕ
+
+-- the awards of today
+pub record Awards : Type 0 where
+  pub items : List Award
+  pub count : ℕ
 
 unfoldable pub today : Trades → List Trade
 today t = drop (t .netted) (take (t .count) (t .items))

@@ -5,7 +5,7 @@ use mathlib.Core.Path.{_≡_, ap, _∙_, subst}
 use mathlib.Core.List.{List}
 use lib.ListN.{length, take, drop, length-drop}
 use lib.Seq.{take-all}
-use Rattle.replay.specs.declared.Replayed.{Replayed}
+use Rattle.replay.specs.declared.Checked.{Checked}
 use Rattle.replay.specs.Replay.{ReadyFor}
 use Rattle.transcript.specs.Parts.{take-min, drop-min}
 use Rattle.transcript.specs.Transcript.{registerLength, registerIn, fileIn, inputRefusal}
@@ -25,8 +25,8 @@ module _ (input : List ℕ) (end : ℕ) (is : end ≡ min (registerLength input)
       ∙ ap (λ (k : ℕ). drop k input) is
       ∙ drop-min (registerLength input) input
 
-  pub started : (r : Replayed) → ReadyFor (take end input) (take (length input - end) (drop end input)) r → StartedOn input (record { number = r .number; file = end; book = r .book })
+  pub started : (r : Checked) → ReadyFor (take end input) (take (length input - end) (drop end input)) r → StartedOn input (record { number = r .number; file = end; core = r .core })
   unfolding inputRefusal
   started r k =
       let same : ReadyFor (registerIn input) (fileIn input) r = subst (λ (l : List ℕ). ReadyFor (registerIn input) l r) back (subst (λ (l : List ℕ). ReadyFor l (take (length input - end) (drop end input)) r) front k) in
-      record { number = same .number; file = is; book = same .book; valid = same .valid }
+      record { number = same .number; file = is; book = same .book; held = same .held }

@@ -6,21 +6,21 @@ use lib.ListN.{length, take, drop}
 use Rattle.events.specs.declared.Event.{Event}
 use Rattle.events.specs.File.{eventsOf}
 use Rattle.plain.specs.Histories.{run}
-use Rattle.book.specs.declared.Book.{Book}
-use Rattle.book.specs.View.{view, Valid}
-use Rattle.replay.specs.Replay.{callsOf}
+use Rattle.calls.specs.declared.Core.{Core}
+use Rattle.calls.specs.View.{Numbers, bookOf, Held}
+use Rattle.replay.specs.Replay.{callsOf, NewlyHeld, OpensAs}
 use Rattle.report.specs.Lines.{LINE}
 use Rattle.report.specs.Pages.{Put}
 use Rattle.transcript.specs.declared.Started.{Started}
 use Rattle.transcript.specs.declared.Played.{Played}
 use Rattle.transcript.specs.Transcript.{registerLength, eventsText, inputRefusal, opened}
 
--- what is answered before the first event: the refusal, or 0; where the file begins; and the new book
+-- what is answered before the first event: the refusal, or 0; where the file begins; and the new book, with whatever blank numbers
 pub record StartedOn (input : List ℕ) (r : Started) : Type 0 where
   pub number : r .number ≡ inputRefusal input
   pub file : r .file ≡ min (registerLength input) (length input)
-  pub book : view (r .book) ≡ opened input
-  pub valid : r .number ≡ 0 → Valid (r .book)
+  pub book : OpensAs (r .core) (opened input)
+  pub held : r .number ≡ 0 → NewlyHeld (r .core)
 
 -- the most bytes that an event prints: its line, and those of 1,024 pieces
 abbrev pub BLOCK : ℕ
@@ -35,12 +35,12 @@ abbrev pub between : List ℕ → ℕ → ℕ → List Event
 between file from to = take (to - from) (drop from (eventsOf file))
 
 -- Events of a file, played from a place on, while the page has room for one more. How many they are is left free (`next`): at least one, where there
--- is one and the page has room for it. The book is the one after them, and the page's first bytes are their text.
-pub record PlayedOn (file : List ℕ) (b : Book) (from : ℕ) (entry exit : List ℕ) (r : Played) : Type 0 where
+-- is one and the page has room for it. The core and the numbers are those after them, and the page's first bytes are their text.
+pub record PlayedOn (file : List ℕ) (b : Core) (a : Numbers) (from : ℕ) (entry exit : List ℕ) (z : Numbers) (r : Played) : Type 0 where
   pub reached : from ≤ r .next
   pub within : r .next ≤ max from (length (eventsOf file))
-  pub text : Put (eventsText (view b) (from + 1) (between file from (r .next))) entry exit (r .used)
+  pub text : Put (eventsText (bookOf b a) (from + 1) (between file from (r .next))) entry exit (r .used)
   pub fits : r .used ≤ length entry
-  pub book : view (r .book) ≡ run (view b) (callsOf (between file from (r .next)))
-  pub valid : Valid (r .book)
+  pub book : bookOf (r .core) z ≡ run (bookOf b a) (callsOf (between file from (r .next)))
+  pub held : Held (r .core) z
   pub further : from < length (eventsOf file) → BLOCK ≤ length entry → from < r .next

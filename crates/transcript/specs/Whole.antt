@@ -10,8 +10,8 @@ use Rattle.events.specs.declared.Event.{Event}
 use Rattle.events.specs.File.{eventsOf}
 use Rattle.plain.specs.Book as plain
 use Rattle.plain.specs.Histories.{run}
-use Rattle.book.specs.declared.Book.{Book}
-use Rattle.book.specs.View.{view}
+use Rattle.calls.specs.declared.Core.{Core}
+use Rattle.calls.specs.View.{Numbers, bookOf, Blank}
 use Rattle.replay.specs.Replay.{callsOf}
 use Rattle.report.specs.Lines.{refusalLine}
 use Rattle.report.specs.Pages.{put-front}
@@ -23,9 +23,9 @@ use Rattle.transcript.specs.Texts.{rest-split, run-rest, text-append}
 
 -- What the program prints from the i-th event of a file on: the used bytes of each page that events were played into, and at the end the lines
 -- of the positions and accounts
-pub data Printed (file : List ℕ) : Book → ℕ → List ℕ → Type 0 where
-  finished : {b : Book} {i : ℕ} → length (eventsOf file) ≤ i → Printed file b i (endText (view b))
-  page : {b : Book} {i : ℕ} {entry exit rest : List ℕ} {r : Played} → PlayedOn file b i entry exit r → Printed file (r .book) (r .next) rest → Printed file b i (take (r .used) exit ++ rest)
+pub data Printed (file : List ℕ) : Core → Numbers → ℕ → List ℕ → Type 0 where
+  finished : {b : Core} {a : Numbers} {i : ℕ} → length (eventsOf file) ≤ i → Printed file b a i (endText (bookOf b a))
+  page : {b : Core} {a z : Numbers} {i : ℕ} {entry exit rest : List ℕ} {r : Played} → PlayedOn file b a i entry exit z r → Printed file (r .core) z (r .next) rest → Printed file b a i (take (r .used) exit ++ rest)
 
 -- what is to be printed from the i-th of the events on
 abbrev left : List Event → plain.Book → ℕ → List ℕ
@@ -48,22 +48,22 @@ module _ (es : List Event) (b : plain.Book) (i j : ℕ) (low : i ≤ j) (high : 
       (ap (λ (k : ℕ). eventsText b (i + 1) these ++ eventsText after k (drop j es)) (sym number) ∙ sym (text-append b (i + 1) these (drop j es)) ∙ ap (eventsText b (i + 1)) (sym (rest-split es i j low)))
       (ap endText (run-rest es i j low b))
 
-rest-printed : (file : List ℕ) {b : Book} {i : ℕ} {text : List ℕ} → i ≤ length (eventsOf file) → Printed file b i text → text ≡ left (eventsOf file) (view b) i
-rest-printed file within (finished {b = b} {i = i} h) = none-left (eventsOf file) (view b) i h
-rest-printed file within (page {b = b} {i = i} {entry = entry} {exit = exit} {rest = rest} {r = r} p more) =
+rest-printed : (file : List ℕ) {b : Core} {a : Numbers} {i : ℕ} {text : List ℕ} → i ≤ length (eventsOf file) → Printed file b a i text → text ≡ left (eventsOf file) (bookOf b a) i
+rest-printed file within (finished {b = b} {a = a} {i = i} h) = none-left (eventsOf file) (bookOf b a) i h
+rest-printed file within (page {b = b} {a = a} {i = i} {entry = entry} {exit = exit} {rest = rest} {r = r} p more) =
     let es = eventsOf file in
     let high : r .next ≤ length es = omega (arith, p .within) in
     ap₂ (λ (t u : List ℕ). t ++ u)
-    (put-front (eventsText (view b) (i + 1) (between file i (r .next))) entry exit (r .used) (p .text))
-    (rest-printed file high more ∙ ap (λ (a : plain.Book). left es a (r .next)) (p .book))
-    ∙ some-left es (view b) i (r .next) (p .reached) high
+    (put-front (eventsText (bookOf b a) (i + 1) (between file i (r .next))) entry exit (r .used) (p .text))
+    (rest-printed file high more ∙ ap (λ (p : plain.Book). left es p (r .next)) (p .book))
+    ∙ some-left es (bookOf b a) i (r .next) (p .reached) high
 
 -- an input that is not refused: what is printed is the transcript
-pub whole : (input : List ℕ) (r : Started) {text : List ℕ} → StartedOn input r → r .number ≡ 0 → Printed (fileIn input) (r .book) 0 text → text ≡ transcript input
+pub whole : (input : List ℕ) (r : Started) (a : Numbers) {text : List ℕ} → StartedOn input r → Blank a → r .number ≡ 0 → Printed (fileIn input) (r .core) a 0 text → text ≡ transcript input
 unfolding transcript
-whole input r s e p =
+whole input r a s blank e p =
     rest-printed (fileIn input) (omega arith) p
-    ∙ ap (λ (b : plain.Book). left (eventsIn input) b 0) (s .book)
+    ∙ ap (λ (b : plain.Book). left (eventsIn input) b 0) (s .book a blank)
     ∙ sym (accepted-zero (inputRefusal input) (left (eventsIn input) (opened input) 0) (refusalLine (inputRefusal input)) (sym (s .number) ∙ e))
 
 -- a refused input: the line of its refusal is

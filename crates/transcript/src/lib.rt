@@ -1,37 +1,36 @@
 // What the player prints for an input, in blocks that are written into a lent page. Document 01, 'Event files and the player'.
 ghost use mathlib.Core.Path.{_≡_};
-ghost use Prim.Native.Nat.{_+_, _*_, min};
-ghost use lib.ListN.{length};
+ghost use mathlib.Core.List.{List};
+ghost use Prim.Native.Nat.{ℕ, _+_, _*_, min};
+ghost use lib.ListN.{length, take};
 ghost use Rattle.events.specs.File.{eventsOf};
-ghost use Rattle.book.specs.View.{view, Valid, numberOf, quantityOf};
-ghost use Rattle.tables.specs.Tables as tables;
-ghost use Rattle.report.specs.Lines.{LINE, eventLine, eventLines};
+ghost use Rattle.plain.specs.declared.Manner.{Manner};
+ghost use Rattle.plain.specs.Book as plain;
+ghost use Rattle.pieces.specs.Sheet.{piecesOf};
+ghost use Rattle.kept.specs.View.{numberOf, quantityOf};
+ghost use Rattle.calls.specs.View.{numbers, bookOf, Held};
+ghost use Rattle.replay.specs.Replay.{NewlyHeld, OpensAs};
+ghost use Rattle.report.specs.Lines.{LINE, eventLines};
 ghost use Rattle.report.specs.Pages.{Wrote};
 ghost use Rattle.transcript.specs.Transcript.{registerLength, endText, lastText};
 ghost use Rattle.transcript.specs.Playing.{StartedOn, BLOCK, END, PlayedOn};
-use book::Answered;
-use book::Book;
-use book::Discharged;
+use calls::Core;
 use events::Event;
 use plain::Outcome;
-use tables::Pieces;
 
-// What the input answers before its first event: a refusal number, or 0; where its file begins; and the book of its register.
+// What the input answers before its first event: a refusal number, or 0; where its file begins; and the core of its register's new book.
 pub struct Started {
     pub number: u8,
     pub file: usize,
-    pub book: Book,
+    pub core: Core,
 }
 
-// What some events of a file made: the book after them, the place of the next event, and the bytes of their lines.
+// What some events of a file made: the core after them, the place of the next event, and the bytes of their lines.
 pub struct Played {
-    pub book: Book,
+    pub core: Core,
     pub next: usize,
     pub used: usize,
 }
-
-// The places of a sheet that takes the pieces of any discharge.
-const SHEET: usize = 1024;
 
 // A page with fewer bytes takes no event, since the event may have 1,024 pieces.
 const BLOCK: usize = 82_000;
@@ -57,11 +56,11 @@ pub fn start(input: &[u8]) -> Started
 {
     let file = register_end(input);
     let opened = replay::ready(&input[..file], &input[file..]);
-    let book = opened.book;
+    let core = opened.core;
     Started {
         number: opened.number,
         file,
-        book,
+        core,
     }
 }
 
@@ -83,86 +82,67 @@ fn quantity_of(outcome: Outcome) -> u32
     }
 }
 
-// What a discharge answers besides its pieces.
-fn answer_of(dealt: Discharged) -> Answered
-    ensures { λ r. ⌜ (r .book ≡ dealt .book) × (r .outcome ≡ dealt .outcome) ⌝ }
-{
-    let book = dealt.book;
-    let outcome = dealt.outcome;
-    Answered { book, outcome }
-}
-
-// A book on which no event was played yet.
-fn unplayed(book: Book) -> Answered
-    ensures { λ r. ⌜ r .book ≡ book ⌝ }
-{
-    let outcome = Outcome::Done(0);
-    Answered { book, outcome }
-}
-
-// The line of an event whose call has no sheet.
-fn entry_line(page: &mut [u8], number: u32, outcome: Outcome) -> usize
-    ensures { λ r. ⌜ Wrote LINE (eventLine number (numberOf outcome) (quantityOf outcome)) (now (page .entry)) (now (page .exit)) r ⌝ }
+// The lines of an event, with those of its pieces, which stand in the first places of the sheet.
+fn answer_lines(
+    page: &mut [u8],
+    number: u32,
+    outcome: Outcome,
+    sheet: &[u64; 4096],
+    pieces: usize,
+) -> usize
+    ensures { λ r. ⌜ ((m : Manner) → Wrote (LINE * (1 + min pieces 1024)) (eventLines number (numberOf outcome) (quantityOf outcome) (take pieces (piecesOf m (now (sheet .entry))))) (now (page .entry)) (now (page .exit)) r) ⌝ }
 {
     let refusal = number_of(outcome);
     let quantity = quantity_of(outcome);
-    report::event_line(page, number, refusal, quantity)
-}
-
-// The lines of an event with its pieces. An event that is no discharge has none.
-fn discharge_lines(page: &mut [u8], number: u32, outcome: Outcome, pieces: Pieces) -> usize
-    ensures { λ r. ⌜ Wrote (LINE * (1 + min (pieces .count) 1024)) (eventLines number (numberOf outcome) (quantityOf outcome) (tables.pieces pieces)) (now (page .entry)) (now (page .exit)) r ⌝ }
-{
-    let refusal = number_of(outcome);
-    let quantity = quantity_of(outcome);
-    let items = pieces.items;
-    report::event_lines(page, number, refusal, quantity, items, pieces.count)
+    report::event_lines(page, number, refusal, quantity, sheet, pieces)
 }
 
 // Events of a file, from a place on, as long as the page has room for one more with all its pieces. Each arm assigns the answer itself: where
-// ways of returning a book join, the compiler copies it.
-pub fn play_events(page: &mut [u8], file: &[u8], book: Book, from: usize) -> Played
-    requires { ⌜ Valid book ⌝ }
-    ensures { λ r. ⌜ PlayedOn (now (file .entry)) book from (now (page .entry)) (now (page .exit)) r ⌝ }
+// ways of returning a core join, the compiler copies it.
+pub fn play_events(
+    page: &mut [u8],
+    file: &[u8],
+    core: Core,
+    rows: &mut [u32; 10240],
+    trades: &mut [u32; 2560],
+    awards: &mut [u32; 1280],
+    counts: &mut [u32; 2048],
+    sheet: &mut [u64; 4096],
+    from: usize,
+) -> Played
+    requires { ⌜ (Held core (numbers (now rows) (now trades) (now awards) (now counts))) × (length (now sheet) ≡ 4096) ⌝ }
+    ensures { λ r. ⌜ (PlayedOn (now (file .entry)) core (numbers (now (rows .entry)) (now (trades .entry)) (now (awards .entry)) (now (counts .entry))) from (now (page .entry)) (now (page .exit)) (numbers (now (rows .exit)) (now (trades .exit)) (now (awards .exit)) (now (counts .exit))) r) × (length (now (sheet .exit)) ≡ 4096) ⌝ }
 {
     let count = events::events_in(file) as usize;
     let room = page.len();
-    let mut answered = unplayed(book);
+    let mut last = replay::unplayed(core);
     let mut next = from;
     let mut used: usize = 0;
     while next < count && used + BLOCK <= room {
         let event = events::event_at(file, next);
-        let number = (next + 1) as u32;
-        if book::is_discharge(event) {
-            let dealt = book::step(answered.book, SHEET, event);
-            answered = answer_of(dealt);
-            let outcome = answered.outcome;
-            used += discharge_lines(&mut page[used..], number, outcome, dealt.pieces);
-        } else {
-            match event {
-                Event::Trade(t) => answered = book::trade(answered.book, t),
-                Event::Price(p) => answered = book::price(answered.book, p),
-                Event::Delivery(_) => {}
-                Event::Attempt(a) => answered = book::attempt(answered.book, a),
-                Event::Offer(o) => answered = book::offer(answered.book, o),
-                Event::Award(a) => answered = book::award(answered.book, a),
-                Event::Confirm(_) => {}
-                Event::Cash(_) => {}
-                Event::Close => answered = book::close(answered.book),
-            }
-            let outcome = answered.outcome;
-            used += entry_line(&mut page[used..], number, outcome);
+        match event {
+            Event::Trade(t) => last = calls::trade(last.core, trades, t),
+            Event::Price(p) => last = calls::price(last.core, p),
+            Event::Delivery(d) => last = calls::delivery(last.core, rows, awards, counts, sheet, d),
+            Event::Attempt(a) => last = calls::attempt(last.core, rows, a),
+            Event::Offer(o) => last = calls::offer(last.core, rows, o),
+            Event::Award(a) => last = calls::award(last.core, rows, awards, a),
+            Event::Confirm(c) => last = calls::confirm(last.core, rows, awards, counts, sheet, c),
+            Event::Cash(c) => last = calls::cash(last.core, rows, counts, sheet, c),
+            Event::Close => last = calls::close(last.core, rows, trades, awards, counts),
         }
+        let outcome = last.outcome;
         next += 1;
+        used += answer_lines(&mut page[used..], next as u32, outcome, sheet, last.pieces);
     }
-    let book = answered.book;
-    Played { book, next, used }
+    let core = last.core;
+    Played { core, next, used }
 }
 
-// The lines of the last event of a file, whose call is made on a lent sheet. The events before it are played by value, and not shown.
-pub fn last_lines(page: &mut [u8], file: &[u8], book: Book) -> usize
-    requires { ⌜ Valid book ⌝ }
-    ensures { λ r. ⌜ Wrote BLOCK (lastText (view book) (eventsOf (now (file .entry)))) (now (page .entry)) (now (page .exit)) r ⌝ }
+// The lines of the last event of a file, whose call is made on a lent sheet of piece structs. The events before it are not shown.
+pub fn last_lines(page: &mut [u8], file: &[u8], core: Core) -> usize
+    requires { ⌜ NewlyHeld core ⌝ }
+    ensures { λ r. ⌜ ((b : plain.Book) → OpensAs core b → Wrote BLOCK (lastText b (eventsOf (now (file .entry)))) (now (page .entry)) (now (page .exit)) r) ⌝ }
 {
     let count = events::events_in(file) as usize;
     if count == 0 {
@@ -171,29 +151,26 @@ pub fn last_lines(page: &mut [u8], file: &[u8], book: Book) -> usize
     if page.len() < BLOCK {
         return 0;
     }
-    let before = replay::before_last(book, file);
+    let before = replay::before_last(core, 0, file);
     let event = events::event_at(file, count - 1);
-    let blank = sheet::blank_sheet();
+    let blank = pieces::blank_pieces();
     let done = sheet::step_by_value(before, blank, event);
     let outcome = done.outcome;
     let items = done.items;
-    let pieces = Pieces {
-        items,
-        count: done.count,
-    };
-    discharge_lines(page, count as u32, outcome, pieces)
+    let shown = pieces::numbers_of(items);
+    answer_lines(page, count as u32, outcome, &shown, done.count)
 }
 
 // The lines of the positions and accounts.
-pub fn end_lines(page: &mut [u8], book: Book) -> usize
-    requires { ⌜ Valid book ⌝ }
-    ensures { λ r. ⌜ Wrote END (endText (view book)) (now (page .entry)) (now (page .exit)) r ⌝ }
+pub fn end_lines(page: &mut [u8], core: Core, rows: &[u32; 10240]) -> usize
+    requires { ⌜ ((trades awards counts : List ℕ) × Held core (numbers (now rows) trades awards counts)) ⌝ }
+    ensures { λ r. ⌜ ((trades awards counts : List ℕ) → Wrote END (endText (bookOf core (numbers (now (rows .entry)) trades awards counts))) (now (page .entry)) (now (page .exit)) r) ⌝ }
 {
     if page.len() < END {
         return 0;
     }
-    let positions = book::position_table(book);
-    let used = report::position_lines(page, positions);
-    let ledger = book::accounts(book);
+    let count = calls::position_count(core);
+    let used = report::position_lines(page, rows, count);
+    let ledger = calls::accounts(core);
     used + report::account_lines(&mut page[used..], ledger)
 }

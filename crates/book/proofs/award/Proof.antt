@@ -1,38 +1,17 @@
 -- `book::award` meets its contract.
-use mathlib.Core.Path.{_≡_, refl, sym, _∙_}
-use Rattle.events.specs.declared.Event.the-variants as event
-use Rattle.plain.specs.Calls.{call, handsOut}
-use Rattle.plain.specs.Refusals.{refusal}
-use Rattle.book.specs.View.{view}
-use Rattle.book.proofs.Answers.{turned-down}
-use Rattle.book.proofs.Auctions.{answered, award-number}
+use Rattle.book.proofs.Returns.{returned}
 use borrow.Author.Needs.{needs}
 use Rattle.book.proofs.award.Statement.{statement}
 use Rattle.book.proofs.award.Tie as tie
 
--- the number is the plain book's
-number-is : (c : tie.After-award-refusal) → c .award-refusal .result ≡ refusal (view (c .before .args .book)) (call (event.Award (c .before .args .a)) 0)
-number-is c =
-    let k = c .before in
-    c .award-refusal .ensures ∙ sym (award-number (k .args .book) (k .args .a) (k .pre .fits))
+award-requires : tie.Need-award-requires
+award-requires c κs = (_, _, c .before .before .before .pre .held)
 
-award-refusal-requires : tie.Need-award-refusal-requires
-award-refusal-requires c κs = search needs
+with-core-requires : tie.Need-with-core-requires
+with-core-requires c κs = search needs
 
 returns : tie.Need-returns
-returns c =
-    let k = c .before .before in
-    turned-down (k .args .book) (call (event.Award (k .args .a)) 0) (c .before .award-refusal .result) (k .pre) (number-is (c .before)) (c .if1 .taken)
-
-end-auction-requires : tie.Need-end-auction-requires
-end-auction-requires c κs = (c .before .before .pre, sym (number-is (c .before)) ∙ c .if1 .left)
-
-returns-2 : tie.Need-returns-2
-unfolding handsOut
-returns-2 c =
-    let n = c .before .before in
-    let k = n .before in
-    answered (k .args .book) (event.Award (k .args .a)) (c .end-auction .result) (k .pre) (sym (number-is n) ∙ c .before .if1 .left) refl (c .end-auction .ensures)
+returns c = rw (c .with-core .ensures) (returned _ _ _ _ _ (c .before .award .ensures _ _ (c .before .before .before .before .before .pre .held) .called))
 
 pub award-spec : {M : Type 1} → statement M
-award-spec = tie.close (tie.spec award-refusal-requires returns end-auction-requires returns-2)
+award-spec = tie.close (tie.spec award-requires with-core-requires returns)

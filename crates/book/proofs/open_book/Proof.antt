@@ -1,31 +1,35 @@
 -- `book::open_book` meets its contract.
-use denote.Ref.{now}
-use mathlib.Core.Path.{ap, sym, _∙_, subst}
-use Rattle.register.specs.declared.RegisterRead.{RegisterRead}
-use Rattle.register.specs.Accepted.{Registered, read-registered}
-use Rattle.plain.specs.Book.{new}
+use Rattle.book.specs.View.{view}
+use Rattle.calls.specs.View.{numbers, Blank}
 use borrow.Author.Needs.{needs}
 use Rattle.book.proofs.open_book.Statement.{statement}
 use Rattle.book.proofs.open_book.Tie as tie
 
-read-register-requires : tie.Need-read-register-requires
-read-register-requires c κs = search needs
+open-core-requires : tie.Need-open-core-requires
+open-core-requires c κs = search needs
 
-new-book-requires : tie.Need-new-book-requires
-new-book-requires c κs = search needs
+blank-rows-requires : tie.Need-blank-rows-requires
+blank-rows-requires c κs = search needs
+
+blank-trades-requires : tie.Need-blank-trades-requires
+blank-trades-requires c κs = search needs
+
+blank-awards-requires : tie.Need-blank-awards-requires
+blank-awards-requires c κs = search needs
+
+no-counts-requires : tie.Need-no-counts-requires
+no-counts-requires c κs = search needs
 
 returns : tie.Need-returns
+unfolding view
 returns c =
     let k = c .before in
-    let bytes = now (k .before .before .args .bytes) in
-    let e = k .read-register .ensures in
-    record {
-      number = ap (λ (r : RegisterRead). r .number) e;
-      book = c .new-book .ensures .0 ∙ ap (λ (r : RegisterRead). new (r .register)) e;
-      valid = λ z.
-          c .new-book .ensures .1
-          (subst (λ (r : RegisterRead). Registered (r .register)) (sym e) (read-registered bytes (sym (ap (λ (r : RegisterRead). r .number) e) ∙ z)));
-    }
+    let o = k .before .before .before .before .open-core .ensures in
+    let a = numbers (k .before .before .blank-rows .result) (k .before .blank-trades .result) (k .blank-awards .result) (c .no-counts .result) in
+    let blank : Blank a =
+    record { rows = k .before .before .blank-rows .ensures; trades = k .before .blank-trades .ensures; awards = k .blank-awards .ensures; counts = c .no-counts .ensures }
+    in
+    record { number = o .number; book = o .book a blank; valid = λ z. record { held = o .held z a blank } }
 
 pub open-book-spec : {M : Type 1} → statement M
-open-book-spec = tie.close (tie.spec read-register-requires new-book-requires returns)
+open-book-spec = tie.close (tie.spec open-core-requires blank-rows-requires blank-trades-requires blank-awards-requires no-counts-requires returns)

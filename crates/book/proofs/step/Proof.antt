@@ -1,7 +1,6 @@
 -- `book::step` meets its contract. Each arm answers by the call of its kind.
 use mathlib.Core.Path.{refl}
-use Rattle.plain.specs.Refusals.{reasons, refusal}
-use Rattle.book.proofs.Stepping.{with-pieces, without-pieces}
+use Rattle.book.proofs.Returns.{with-pieces, without-pieces}
 use borrow.Author.Needs.{needs}
 use Rattle.book.proofs.step.Statement.{statement}
 use Rattle.book.proofs.step.Tie as tie
@@ -79,43 +78,37 @@ without-pieces-requires-6 : tie.Need-without-pieces-requires-6
 without-pieces-requires-6 c κs = tt
 
 returns : tie.Need-returns
-unfolding refusal reasons
 returns c =
-    without-pieces _ _ _ _ _ (c .before .before .before .e .given .1) _ (c .before .trade .ensures) (c .without-pieces .ensures) refl
+    without-pieces _ _ _ _ (c .before .before .before .e .given .1) _ _ (c .before .trade .ensures) (c .without-pieces .ensures) refl
 
 returns-2 : tie.Need-returns-2
-unfolding refusal reasons
 returns-2 c =
-    without-pieces _ _ _ _ _ (c .before .before .before .e2 .given .1) _ (c .before .price .ensures) (c .without-pieces2 .ensures) refl
+    without-pieces _ _ _ _ (c .before .before .before .e2 .given .1) _ _ (c .before .price .ensures) (c .without-pieces2 .ensures) refl
 
 returns-3 : tie.Need-returns-3
-returns-3 c = with-pieces _ _ _ _ _ (c .before .before .e3 .given .1) (c .delivery .ensures)
+returns-3 c = with-pieces _ _ _ _ (c .before .before .e3 .given .1) _ (c .delivery .ensures)
 
 returns-4 : tie.Need-returns-4
-unfolding refusal reasons
 returns-4 c =
-    without-pieces _ _ _ _ _ (c .before .before .before .e4 .given .1) _ (c .before .attempt .ensures) (c .without-pieces3 .ensures) refl
+    without-pieces _ _ _ _ (c .before .before .before .e4 .given .1) _ _ (c .before .attempt .ensures) (c .without-pieces3 .ensures) refl
 
 returns-5 : tie.Need-returns-5
-unfolding refusal reasons
 returns-5 c =
-    without-pieces _ _ _ _ _ (c .before .before .before .e5 .given .1) _ (c .before .offer .ensures) (c .without-pieces4 .ensures) refl
+    without-pieces _ _ _ _ (c .before .before .before .e5 .given .1) _ _ (c .before .offer .ensures) (c .without-pieces4 .ensures) refl
 
 returns-6 : tie.Need-returns-6
-unfolding refusal reasons
 returns-6 c =
-    without-pieces _ _ _ _ _ (c .before .before .before .e6 .given .1) _ (c .before .award .ensures) (c .without-pieces5 .ensures) refl
+    without-pieces _ _ _ _ (c .before .before .before .e6 .given .1) _ _ (c .before .award .ensures) (c .without-pieces5 .ensures) refl
 
 returns-7 : tie.Need-returns-7
-returns-7 c = with-pieces _ _ _ _ _ (c .before .before .e7 .given .1) (c .confirm .ensures)
+returns-7 c = with-pieces _ _ _ _ (c .before .before .e7 .given .1) _ (c .confirm .ensures)
 
 returns-8 : tie.Need-returns-8
-returns-8 c = with-pieces _ _ _ _ _ (c .before .before .e8 .given .1) (c .cash .ensures)
+returns-8 c = with-pieces _ _ _ _ (c .before .before .e8 .given .1) _ (c .cash .ensures)
 
 returns-9 : tie.Need-returns-9
-unfolding refusal reasons
 returns-9 c =
-    without-pieces _ _ _ _ _ (c .before .before .enum-told .given .1) _ (c .before .close .ensures) (c .without-pieces6 .ensures) refl
+    without-pieces _ _ _ _ (c .before .before .enum-told .given .1) _ _ (c .before .close .ensures) (c .without-pieces6 .ensures) refl
 
 pub step-spec : {M : Type 1} → statement M
 step-spec =

@@ -4,41 +4,32 @@ use Rattle.desk.proofs.Packing.{answered, written-packed}
 use Rattle.desk.proofs.fails_copy_file.Statement.{statement}
 use Rattle.desk.proofs.fails_copy_file.Tie as tie
 
--- src/lib.rt:130:9
 copy-file-requires : tie.Need-copy-file-requires
 copy-file-requires c κs = search needs
 
--- src/lib.rt:132:23
 enum-known-written : tie.Need-enum-known-written
 enum-known-written c = search needs
 
--- src/lib.rt:132:33
 packed-requires : tie.Need-packed-requires
 packed-requires c κs = search needs
 
--- src/lib.rt:133:26
 enum-known-written-2 : tie.Need-enum-known-written-2
 enum-known-written-2 c = search needs
 
--- src/lib.rt:133:37
 packed-requires-2 : tie.Need-packed-requires-2
 packed-requires-2 c κs = search needs
 
--- src/lib.rt:126:1
 same-length : tie.Need-same-length
 same-length c = search needs
 
--- src/lib.rt:126:1
 returns : tie.Need-returns
 returns c =
     let copied = c .before .before .before .before .before .before .copy-file .ensures in
     (c .packed .ensures ∙ ap answered (sym (c .before .before .written .given .1)) ∙ written-packed _ _ _ (copied .0), copied .1)
 
--- src/lib.rt:126:1
 same-length-2 : tie.Need-same-length-2
 same-length-2 c = search needs
 
--- src/lib.rt:126:1
 returns-2 : tie.Need-returns-2
 returns-2 c =
     let copied = c .before .before .before .before .before .before .copy-file .ensures in

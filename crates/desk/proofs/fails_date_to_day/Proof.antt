@@ -2,36 +2,28 @@ use borrow.Author.Needs.{needs}
 use Rattle.desk.proofs.fails_date_to_day.Statement.{statement}
 use Rattle.desk.proofs.fails_date_to_day.Tie as tie
 
--- src/lib.rt:47:9
 date-to-day-requires : tie.Need-date-to-day-requires
 date-to-day-requires c κs = search needs
 
--- src/lib.rt:49:24
 enum-known-answer : tie.Need-enum-known-answer
 enum-known-answer c = search needs
 
--- src/lib.rt:49:42
 cast-packed : tie.Need-cast-packed
 cast-packed c = search needs
 
--- src/lib.rt:49:32
 packed-requires : tie.Need-packed-requires
 packed-requires c κs = search needs
 
--- src/lib.rt:50:28
 enum-known-answer-2 : tie.Need-enum-known-answer-2
 enum-known-answer-2 c = search needs
 
--- src/lib.rt:50:39
 packed-requires-2 : tie.Need-packed-requires-2
 packed-requires-2 c κs = search needs
 
--- src/lib.rt:43:1
 returns : tie.Need-returns
 returns c =
     rw (c .packed .ensures, ← c .before .before .before .before .before .date-to-day .ensures, c .before .before .before .answer .given .1)
 
--- src/lib.rt:43:1
 returns-2 : tie.Need-returns-2
 returns-2 c =
     rw (c .packed2 .ensures, ← c .before .before .before .before .date-to-day .ensures, c .before .before .answer2 .given .1)

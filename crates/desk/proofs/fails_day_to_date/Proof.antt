@@ -2,32 +2,25 @@ use borrow.Author.Needs.{needs}
 use Rattle.desk.proofs.fails_day_to_date.Statement.{statement}
 use Rattle.desk.proofs.fails_day_to_date.Tie as tie
 
--- src/lib.rt:35:9
 day-to-date-requires : tie.Need-day-to-date-requires
 day-to-date-requires c κs = search needs
 
--- src/lib.rt:37:26
 enum-known-answer : tie.Need-enum-known-answer
 enum-known-answer c = search needs
 
--- src/lib.rt:37:35
 packed-requires : tie.Need-packed-requires
 packed-requires c κs = search needs
 
--- src/lib.rt:38:29
 enum-known-answer-2 : tie.Need-enum-known-answer-2
 enum-known-answer-2 c = search needs
 
--- src/lib.rt:38:40
 packed-requires-2 : tie.Need-packed-requires-2
 packed-requires-2 c κs = search needs
 
--- src/lib.rt:31:1
 returns : tie.Need-returns
 returns c =
     rw (c .packed .ensures, ← c .before .before .before .before .day-to-date .ensures, c .before .before .answer .given .1)
 
--- src/lib.rt:31:1
 returns-2 : tie.Need-returns-2
 returns-2 c =
     rw (c .packed2 .ensures, ← c .before .before .before .before .day-to-date .ensures, c .before .before .answer2 .given .1)

@@ -4,33 +4,26 @@ use Rattle.desk.proofs.Packing.{refused-packed}
 use Rattle.desk.proofs.fails_file.Statement.{statement}
 use Rattle.desk.proofs.fails_file.Tie as tie
 
--- src/lib.rt:118:9
 file-refusal-requires : tie.Need-file-refusal-requires
 file-refusal-requires c κs = search needs
 
--- src/lib.rt:120:26
 event-count-requires : tie.Need-event-count-requires
 event-count-requires c κs = search needs
 
--- src/lib.rt:120:26
 cast-packed : tie.Need-cast-packed
 cast-packed c = search needs
 
--- src/lib.rt:120:9
 packed-requires : tie.Need-packed-requires
 packed-requires c κs = search needs
 
--- src/lib.rt:120:9
 returns : tie.Need-returns
 returns c =
     let taken = sym (c .before .before .before .file-refusal .ensures) ∙ c .before .before .if1 .taken in
     rw (c .packed .ensures, c .before .event-count .ensures, taken)
 
--- src/lib.rt:122:5
 packed-requires-2 : tie.Need-packed-requires-2
 packed-requires-2 c κs = search needs
 
--- src/lib.rt:114:1
 returns-2 : tie.Need-returns-2
 returns-2 c =
     let number = c .before .before .file-refusal .ensures in

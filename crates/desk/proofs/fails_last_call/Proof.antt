@@ -2,7 +2,7 @@
 use mathlib.Core.Path.{_≡_, sym, ap, _∙_}
 use denote.Ref.{now}
 use Rattle.plain.specs.declared.Outcome.{Outcome}
-use Rattle.book.specs.View.{numberOf, quantityOf}
+use Rattle.kept.specs.View.{numberOf, quantityOf}
 use Rattle.desk.specs.Answers as answers
 use Rattle.desk.specs.Last.{lastNumber, lastQuantity}
 use Rattle.desk.proofs.Packing.{refused-input, last-packed}
@@ -32,7 +32,7 @@ part-last-answer-end : tie.Need-part-last-answer-end
 part-last-answer-end c = search needs
 
 last-answer-requires : tie.Need-last-answer-requires
-last-answer-requires c κs = c .before .before .before .start .ensures .valid (c .before .before .if1 .left)
+last-answer-requires c κs = c .before .before .before .start .ensures .held (c .before .before .if1 .left)
 
 -- an outcome's number and quantity, packed, are those of the definition
 answered : (c : tie.After-last-answer) → let a = c .before .before .before .before .before .before .args in
@@ -40,7 +40,7 @@ answered : (c : tie.After-last-answer) → let a = c .before .before .before .be
 answered c =
     let s = c .before .before .before .before in
     let a = s .before .before .args in
-    last-packed (now (a .input)) (a .closes) (a .sheet) (s .start .result) (s .start .ensures) (c .before .before .before .if1 .left) (c .last-answer .result) (c .last-answer .ensures)
+    last-packed (now (a .input)) (a .closes) (a .sheet) (s .start .result) (s .start .ensures) (c .before .before .before .if1 .left) (c .last-answer .result) (c .last-answer .ensures _ (s .start .ensures .book))
 
 enum-known-outcome : tie.Need-enum-known-outcome
 enum-known-outcome c = search needs

@@ -1,4 +1,5 @@
 -- `desk::fails_last_lines` meets its contract.
+use native.Mathlib.Omega.{arith}
 use denote.Ref.{now}
 use Rattle.desk.proofs.Lines.{refused-lines, accepted-lines}
 use borrow.Author.Needs.{needs}
@@ -26,10 +27,13 @@ part-last-lines-end c = search needs
 last-lines-requires : tie.Need-last-lines-requires
 last-lines-requires c κs =
     let e = c .before .before .before in
-    e .before .before .start .ensures .valid (e .if1 .left)
+    e .before .before .start .ensures .held (e .if1 .left)
 
 cast-result : tie.Need-cast-result
-cast-result c = search needs
+cast-result c =
+    let l = c .before .before in
+    let s = l .before .before .before .before .before .before in
+    omega (arith, l .last-lines .ensures _ (s .start .ensures .book) .most)
 
 same-length : tie.Need-same-length
 same-length c = search needs
@@ -40,7 +44,7 @@ returns-2 c =
     let e = l .before .before .before .before in
     let s = e .before .before in
     let a = s .before .before .before .args in
-    accepted-lines (now (a .input)) (now (a .page)) (s .start .result) (s .start .ensures) _ _ (e .if1 .left) (l .last-lines .ensures)
+    accepted-lines (now (a .input)) (now (a .page)) (s .start .result) (s .start .ensures) _ _ (e .if1 .left) (l .last-lines .ensures _ (s .start .ensures .book))
 
 pub fails-last-lines-spec : {M : Type 1} → statement M
 fails-last-lines-spec =

@@ -1,18 +1,19 @@
+-- `ledger::post_award_fines` meets its contract: what is posted so far, with what is still to come, is the whole.
 use borrow.Author.Needs.{needs}
 use native.Mathlib.Omega.{arith}
 use Prim.Native.Nat.{_+_, _-_, _≤_}
-use mathlib.Core.Path.{refl}
+use mathlib.Core.Path.{refl, sym, _∙_}
 use mathlib.Core.Logic.{⊎-elim}
 use mathlib.Core.List.{List, _∷_}
-use lib.ListN.{length, getD}
+use lib.ListN.{length}
 use Rattle.register.specs.declared.Register.{Register}
-use Rattle.plain.specs.declared.Position.{Position}
 use Rattle.plain.specs.declared.Award.{Award}
-use Rattle.plain.specs.Book.{noPosition, noAward}
+use Rattle.plain.specs.Book.{noAward}
 use Rattle.plain.specs.Charging.{Charge, awardFines}
-use Rattle.tables.specs.declared.Positions.{Positions}
+use Rattle.tables.specs.Tables.{Positions, positions, awards}
 use Rattle.tables.specs.declared.Prices.{Prices}
-use Rattle.tables.specs.Tables.{positions, awards}
+use Rattle.rows.specs.Rows.{awardsOf}
+use Rattle.tables.specs.Lent.{positionTable}
 use Rattle.ledger.specs.Parts.{bookOf, awardFinesOf}
 use Rattle.ledger.specs.Tabled.{Accounted, Awarded}
 use Rattle.ledger.proofs.Posting.{Posting, PostingAt, ahead, credit-fits, debit-fits, posting-start, posting-one, place-none, place-some, place-end}
@@ -25,81 +26,85 @@ abbrev finesOf : Positions → Prices → Register → Award → List Charge
 finesOf p prices register = awardFines (bookOf register 0 (prices .latest) (positions p))
 
 abbrev Inv-loop : tie.InvT-loop
-Inv-loop awards positions prices register count after₀ i₀ after i =
-    PostingAt (finesOf positions prices register) (awards .count) (awards .items) after₀ i after × (i ≤ awards .count)
+Inv-loop awards awarded rows held prices register after₀ i₀ after i =
+    PostingAt (finesOf (positionTable rows held) prices register) awarded (awardsOf awards) after₀ i after × (i ≤ awarded)
 
 abbrev μ-loop : tie.MeasureT-loop
-μ-loop awards positions prices register count after₀ i₀ after i = count - i
+μ-loop awards awarded rows held prices register after₀ i₀ after i = awarded - i
 
-long : (c : tie.Start Inv-loop μ-loop) → c .args .t2 .count ≤ length (c .args .t2 .items)
+abbrev table : tie.Start Inv-loop μ-loop → Positions
+table s = positionTable (s .args .rows .now) (s .args .held)
+
+long : (c : tie.Start Inv-loop μ-loop) → c .args .awarded ≤ length (awardsOf (c .args .awards .now))
 long c = omega (arith, c .pre .awards-fit .places, c .pre .awards-fit .held)
 
-abbrev awardAt : tie.In-loop Inv-loop μ-loop → Award
-awardAt y = getD (y .before .before .args .t2 .items) (y .before .loop .i) noAward
-
-abbrev shortAt : tie.In-loop Inv-loop μ-loop → Position
-shortAt y = getD (y .before .before .args .t3 .items) (awardAt y .position - 1) noPosition
-
-awarded : (y : tie.In-loop Inv-loop μ-loop) → Awarded (y .before .before .args .t3 .count) (awardAt y)
+awarded-at : (r : tie.After-award-at Inv-loop μ-loop) → Awarded (r .before .before .before .args .held) (r .award-at .result)
 unfolding awards
-awarded y = element (Awarded _) _ _ noAward _ (long (y .before .before)) (y .loop-test .taken) (y .before .before .pre .awarded)
+awarded-at r =
+    let y = r .before in
+    let s = y .before .before in
+    rw (r .award-at .ensures) (element (Awarded _) _ _ noAward _ (long s) (y .loop-test .taken) (s .pre .awarded))
 
-accounted : (y : tie.In-loop Inv-loop μ-loop) → Accounted (shortAt y)
-accounted y = position-numbered _ (y .before .before .pre .positions-fit) Accounted _ (awarded y .position) (y .before .before .pre .accounted)
+accounted : (p : tie.After-row-at Inv-loop μ-loop) → Accounted (p .row-at .result)
+accounted p =
+    let r = p .before .before in
+    let s = r .before .before .before in
+    rw (p .row-at .ensures) (position-numbered (table s) (s .pre .positions-fit) Accounted _ (awarded-at r .position) (s .pre .accounted))
 
 -- the award is fined: its charge is the next to be posted
 posting : (x : tie.After-award-fine Inv-loop μ-loop)
-    → let y = x .before .before .before .before .before .before .before .before .before .before in
-    let a = y .before .before .args in
-    let f = finesOf (a .t3) (a .t4) (a .t5) in
-    Posting (a .ledger) (ahead f (a .t2 .count) (a .t2 .items) 0)
-    (record { payer = awardAt y .offerer; payee = 0; cents = x .award-fine .result } ∷ ahead f (a .t2 .count) (a .t2 .items) (y .before .loop .i + 1))
+    → let p = x .before .before .before .before .before .before .before in
+    let r = p .before .before in
+    let y = r .before in
+    let s = y .before .before in
+    let f = finesOf (table s) (s .args .t6) (s .args .t7) in
+    Posting (s .args .ledger) (ahead f (s .args .awarded) (awardsOf (s .args .awards .now)) 0)
+    (record { payer = r .award-at .result .offerer; payee = 0; cents = x .award-fine .result } ∷ ahead f (s .args .awarded) (awardsOf (s .args .awards .now)) (y .before .loop .i + 1))
     (y .before .loop .after)
 posting x =
-    let y = x .before .before .before .before .before .before .before .before .before .before in
-    place-some _ _ _ (long (y .before .before)) _ _ _ noAward _ (y .loop-test .taken)
-    (award-fined _ (awardAt y) (shortAt y) _ _ (position-at _ _ (awarded y .position)) refl (x .before .before .before .before .award-is-fined .ensures) _ _ _ (x .before .before .before .if1 .taken) refl (x .before .value-of .ensures) (x .award-fine .ensures))
+    let p = x .before .before .before .before .before .before .before in
+    let r = p .before .before in
+    let y = r .before in
+    let s = y .before .before in
+    place-some _ _ _ (long s) _ _ _ noAward _ (y .loop-test .taken)
+    (rw (← r .award-at .ensures) (award-fined _ (r .award-at .result) (p .row-at .result) _ _ (position-at (table s) _ (awarded-at r .position) ∙ sym (p .row-at .ensures)) refl (x .before .before .before .before .award-is-fined .ensures) _ _ _ (x .before .before .before .if1 .taken) refl (x .before .value-of .ensures) (x .award-fine .ensures)))
     (y .before .loop .inv .0)
 
 loop-holds : tie.Need-loop-holds Inv-loop μ-loop
 unfolding awardFinesOf awards
 loop-holds c = (posting-start _ _ (c .pre .room), omega arith)
 
-mul-award : tie.Need-mul-award Inv-loop μ-loop
-mul-award c = omega (arith, c .before .before .pre .awards-fit .held)
-
-element-copy-out-award : tie.Need-element-copy-out-award Inv-loop μ-loop
-element-copy-out-award c = omega (arith, c .before .before .pre .awards-fit .held)
+award-at-requires : tie.Need-award-at-requires Inv-loop μ-loop
+award-at-requires c κs = omega (arith, c .before .before .pre .awards-fit .held)
 
 sub-place : tie.Need-sub-place Inv-loop μ-loop
-sub-place c = omega (arith, awarded (c .before .before) .position .above)
+sub-place c = omega (arith, awarded-at (c .before) .position .above)
 
 cast-place : tie.Need-cast-place Inv-loop μ-loop
 cast-place c = search needs
 
-mul-short : tie.Need-mul-short Inv-loop μ-loop
-mul-short c = omega (arith, awarded (c .before .before) .position .below, c .before .before .before .before .pre .positions-fit .held)
-
-element-copy-out-short : tie.Need-element-copy-out-short Inv-loop μ-loop
-element-copy-out-short c = omega (arith, awarded (c .before .before) .position .above, awarded (c .before .before) .position .below, c .before .before .before .before .pre .positions-fit .held)
+row-at-requires : tie.Need-row-at-requires Inv-loop μ-loop
+row-at-requires c κs =
+    let r = c .before in
+    omega (arith, awarded-at r .position .above, awarded-at r .position .below, r .before .before .before .pre .positions-fit .held)
 
 sub-k : tie.Need-sub-k Inv-loop μ-loop
-sub-k c = omega (arith, accounted (c .before .before .before .before) .security .above)
+sub-k c = omega (arith, accounted (c .before) .security .above)
 
 cast-k : tie.Need-cast-k Inv-loop μ-loop
 cast-k c = search needs
 
 mul-latest : tie.Need-mul-latest Inv-loop μ-loop
-mul-latest c = omega (arith, accounted (c .before .before .before .before) .security .below)
+mul-latest c = omega (arith, accounted (c .before) .security .below)
 
 element-copy-out-latest : tie.Need-element-copy-out-latest Inv-loop μ-loop
-element-copy-out-latest c = omega (arith, accounted (c .before .before .before .before) .security .below)
+element-copy-out-latest c = omega (arith, accounted (c .before) .security .below)
 
 award-is-fined-requires : tie.Need-award-is-fined-requires Inv-loop μ-loop
 award-is-fined-requires c κs = search needs
 
 element-copy-out-class : tie.Need-element-copy-out-class Inv-loop μ-loop
-element-copy-out-class c = omega (arith, accounted (c .before .before .before .before .before .before .before) .security .below)
+element-copy-out-class c = omega (arith, accounted (c .before .before .before .before) .security .below)
 
 value-of-requires : tie.Need-value-of-requires Inv-loop μ-loop
 value-of-requires c κs = search needs
@@ -111,7 +116,9 @@ raise-place-requires : tie.Need-raise-place-requires Inv-loop μ-loop
 raise-place-requires c κs = (omega arith, credit-fits _ _ _ (posting (c .before) .room) 0)
 
 raise-place-requires-2 : tie.Need-raise-place-requires-2 Inv-loop μ-loop
-raise-place-requires-2 c κs = (awarded (c .before .before .before .before .before .before .before .before .before .before .before .before .before) .offerer, debit-fits _ _ _ (posting (c .before .before .before) .room) _)
+raise-place-requires-2 c κs =
+    let x = c .before .before .before in
+    (awarded-at (x .before .before .before .before .before .before .before .before .before) .offerer, debit-fits _ _ _ (posting x .room) _)
 
 add-i : tie.Need-add-i Inv-loop μ-loop
 add-i c = omega (arith, c .before .before .before .before .before .before .before .before .before .pre .awards-fit .held)
@@ -121,7 +128,10 @@ loop-less c = omega arith
 
 loop-again : tie.Need-loop-again Inv-loop μ-loop
 loop-again c =
-    let y = c .before .before .before .before .before .before .before in
+    let p = c .before .before .before .before in
+    let r = p .before .before in
+    let y = r .before in
+    let s = y .before .before in
     ⊎-elim
     (λ w. (
       rw (w .8, w .5 .ensures, w .7 .ensures)
@@ -129,7 +139,7 @@ loop-again c =
       omega arith,
     ))
     (λ w. (
-      rw (w .1) (place-none _ _ _ (long (y .before .before)) _ _ _ noAward (y .loop-test .taken) (award-free _ (awardAt y) (shortAt y) _ _ (position-at _ _ (awarded y .position)) refl (c .before .award-is-fined .ensures) (w .0 .left)) (y .before .loop .inv .0)),
+      rw (w .1) (place-none _ _ _ (long s) _ _ _ noAward (y .loop-test .taken) (rw (← r .award-at .ensures) (award-free _ (r .award-at .result) (p .row-at .result) _ _ (position-at (table s) _ (awarded-at r .position) ∙ sym (p .row-at .ensures)) refl (c .before .award-is-fined .ensures) (w .0 .left))) (y .before .loop .inv .0)),
       omega arith,
     ))
     (c .if1 .came)
@@ -145,12 +155,10 @@ post-award-fines-spec =
     Inv-loop
     μ-loop
     loop-holds
-    mul-award
-    element-copy-out-award
+    award-at-requires
     sub-place
     cast-place
-    mul-short
-    element-copy-out-short
+    row-at-requires
     sub-k
     cast-k
     mul-latest

@@ -1,3 +1,4 @@
+-- `ledger::post_close` meets its contract.
 use native.Mathlib.Omega.{arith}
 use mathlib.Core.Path.{_≡_, _∙_}
 use mathlib.Core.Logic.{⊎-elim}
@@ -5,11 +6,12 @@ use Rattle.plain.specs.Charging.{posted}
 use Rattle.ledger.specs.Posts.{posted-append, room-first, room-then}
 use Rattle.ledger.specs.Parts.{awardFinesOf, closeChargesOf}
 use Rattle.ledger.proofs.Fines.{none-fined}
+use Rattle.tables.specs.Lent.{positionTable, awardTable}
 use Rattle.ledger.proofs.post_close.Statement.{statement}
 use Rattle.ledger.proofs.post_close.Tie as tie
 
 -- the fines of the awards are posted, whether there was an award or not
-fined : (c : tie.Joined1) → let a = c .before .before .args in c .if1 .fined ≡ posted (a .ledger) (awardFinesOf (a .awards) (a .positions) (a .prices) (a .register))
+fined : (c : tie.Joined1) → let a = c .before .args in c .if1 .fined ≡ posted (a .ledger) (awardFinesOf (awardTable (a .awards .now) (a .awarded)) (positionTable (a .rows .now) (a .held)) (a .prices) (a .register))
 fined c =
     ⊎-elim
     (λ w. w .2 ∙ w .1 .ensures)
@@ -19,7 +21,7 @@ fined c =
 post-award-fines-requires : tie.Need-post-award-fines-requires
 unfolding closeChargesOf
 post-award-fines-requires c κs =
-    let k = c .before .before in
+    let k = c .before in
     record {
       room = room-first _ _ _ (k .pre .room);
       positions-fit = k .pre .positions-fit;
@@ -31,7 +33,7 @@ post-award-fines-requires c κs =
 post-late-fines-requires : tie.Need-post-late-fines-requires
 unfolding closeChargesOf
 post-late-fines-requires c κs =
-    let k = c .before .before in
+    let k = c .before in
     record {
       room = rw (fined c) (room-then _ _ _ (k .pre .room));
       positions-fit = k .pre .positions-fit;

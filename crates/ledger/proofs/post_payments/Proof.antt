@@ -1,113 +1,180 @@
+-- `ledger::post_payments` meets its contract: the pieces before the place are priced and paid for, and the rest is as it was.
 use borrow.Author.Needs.{needs}
 use native.Mathlib.Omega.{arith}
-use Prim.Native.Nat.{_+_, _-_, _≤_}
+use Prim.Native.Nat.{_+_, _-_, _*_, _≤_, _<_}
+use mathlib.Core.Path.{_≡_, refl, _∙_}
 use mathlib.Core.List.{_∷_}
 use lib.ListN.{length, getD}
-use Rattle.plain.specs.declared.Position.{Position}
 use Rattle.plain.specs.declared.Piece.{Piece}
+use Rattle.plain.specs.declared.Manner.the-variants.{Cash}
 use Rattle.plain.specs.Book.{noPosition}
 use Rattle.tables.specs.Tables.{positions, pieces}
+use Rattle.rows.specs.Rows.{rowsOf}
+use Rattle.pieces.specs.Sheet.{piecesOf}
+use Rattle.tables.specs.Lent.{positionTable}
+use Rattle.ledger.specs.Parts.{pricedBy}
 use Rattle.ledger.specs.Tabled.{Accounted, Paired}
 use Rattle.ledger.proofs.Posting.{Posting, PostingAt, ahead, credit-fits, debit-fits, posting-start, posting-one, place-some, place-end}
-use Rattle.ledger.proofs.Elements.{noPiece, element, position-numbered}
-use Rattle.ledger.proofs.Settling.{paid, payments-each, paid-at}
+use Rattle.ledger.proofs.Elements.{element, position-numbered}
+use Rattle.ledger.proofs.Settling.{Changing, changing-start, changing-at, changing-one, changing-end, piece-fits}
+use Rattle.ledger.specs.Settling.{paymentBy, paymentsBy, Owed}
+use Rattle.ledger.proofs.Settling.{noPiece, priced-here, payment-here}
 use Rattle.ledger.proofs.post_payments.Statement.{statement}
 use Rattle.ledger.proofs.post_payments.Tie as tie
 
 abbrev Inv-loop : tie.InvT-loop
-Inv-loop pieces positions count after₀ i₀ after i =
-    PostingAt (paid positions) (pieces .count) (pieces .items) after₀ i after × (i ≤ pieces .count)
+Inv-loop rows held sheet₀ dealt short class latest after₀ i₀ sheet after i =
+    (Changing (pricedBy class latest (positions (positionTable rows held))) dealt (piecesOf Cash sheet₀) i (piecesOf Cash sheet))
+    × (PostingAt (paymentBy class latest (positionTable rows held)) dealt (piecesOf Cash sheet₀) after₀ i after) × (i ≤ dealt) × (length sheet ≡ 4096)
 
 abbrev μ-loop : tie.MeasureT-loop
-μ-loop pieces positions count after₀ i₀ after i = count - i
+μ-loop rows held sheet₀ dealt short class latest after₀ i₀ sheet after i = dealt - i
 
-long : (c : tie.Start Inv-loop μ-loop) → c .args .t2 .count ≤ length (c .args .t2 .items)
-long c = omega (arith, c .pre .pieces-fit .places, c .pre .pieces-fit .held)
+abbrev start : tie.In-loop Inv-loop μ-loop → tie.Start Inv-loop μ-loop
+start y = y .before .before
 
+long : (s : tie.Start Inv-loop μ-loop) → s .args .dealt ≤ length (piecesOf Cash (s .args .sheet .now))
+long s = let f = s .pre .0 .priceable .pieces-fit in omega (arith, f .places, f .held)
+
+-- a piece that is not priced yet is one of those given
 abbrev pieceAt : tie.In-loop Inv-loop μ-loop → Piece
-pieceAt y = getD (y .before .before .args .t2 .items) (y .before .loop .i) noPiece
+pieceAt y = getD (piecesOf Cash (y .before .loop .sheet)) (y .before .loop .i) noPiece
 
-abbrev shortAt : tie.In-loop Inv-loop μ-loop → Position
-shortAt y = getD (y .before .before .args .t3 .items) (pieceAt y .short - 1) noPosition
+same : (y : tie.In-loop Inv-loop μ-loop) → pieceAt y ≡ getD (piecesOf Cash (start y .args .sheet .now)) (y .before .loop .i) noPiece
+same y = changing-at _ _ _ (long (start y)) _ _ noPiece (y .loop-test .taken) (y .before .loop .inv .0)
 
-abbrev longAt : tie.In-loop Inv-loop μ-loop → Position
-longAt y = getD (y .before .before .args .t3 .items) (pieceAt y .long - 1) noPosition
-
-paired : (y : tie.In-loop Inv-loop μ-loop) → Paired (y .before .before .args .t3 .count) (pieceAt y)
+paired : (y : tie.In-loop Inv-loop μ-loop) → Paired (start y .args .held) (pieceAt y)
 unfolding pieces
-paired y = element (Paired _) _ _ noPiece _ (long (y .before .before)) (y .loop-test .taken) (y .before .before .pre .paired)
+paired y = rw (same y) (element (Paired _) _ _ noPiece _ (long (start y)) (y .loop-test .taken) (start y .pre .0 .priceable .paired))
 
-accounted : (y : tie.In-loop Inv-loop μ-loop) → Accounted (shortAt y) × Accounted (longAt y)
-accounted y =
-    let h = y .before .before .pre in (
-      position-numbered _ (h .positions-fit) Accounted _ (paired y .short) (h .accounted),
-      position-numbered _ (h .positions-fit) Accounted _ (paired y .long) (h .accounted),
-    )
+owed : (y : tie.In-loop Inv-loop μ-loop) → let a = start y .args in Owed (positionTable (a .rows .now) (a .held)) (a .short) (pieceAt y)
+unfolding pieces
+owed y = rw (same y) (element (Owed _ _) _ _ noPiece _ (long (start y)) (y .loop-test .taken) (start y .pre .0 .owed))
+
+-- the long of the piece
+abbrev turn : tie.After-row-at Inv-loop μ-loop → tie.In-loop Inv-loop μ-loop
+turn r = r .before .before .before .before .before
+
+long-is : (r : tie.After-row-at Inv-loop μ-loop) → r .row-at .result ≡ getD (rowsOf (start (turn r) .args .rows .now)) (pieceAt (turn r) .long - 1) noPosition
+long-is r = rw (← r .before .before .before .long-at .ensures Cash) (r .row-at .ensures)
+
+accounted : (r : tie.After-row-at Inv-loop μ-loop) → Accounted (r .row-at .result)
+accounted r =
+    let s = start (turn r) in
+    rw (long-is r) (position-numbered (positionTable (s .args .rows .now) (s .args .held)) (s .pre .0 .priceable .positions-fit) Accounted _ (paired (turn r) .long) (s .pre .0 .accounted))
+
+reference : (r : tie.After-row-at Inv-loop μ-loop) → r .row-at .result .reference ≤ 10000000
+reference r =
+    let s = start (turn r) in
+    rw (long-is r) (position-numbered (positionTable (s .args .rows .now) (s .args .held)) (s .pre .0 .priceable .positions-fit) (λ p. p .reference ≤ 10000000) _ (paired (turn r) .long) (s .pre .0 .priceable .references))
 
 -- the piece's payment is the next charge to be posted
-posting : (y : tie.In-loop Inv-loop μ-loop)
-    → let a = y .before .before .args in
-    Posting (a .ledger) (ahead (paid (a .t3)) (a .t2 .count) (a .t2 .items) 0)
-    (record { payer = shortAt y .member; payee = longAt y .member; cents = pieceAt y .cents } ∷ ahead (paid (a .t3)) (a .t2 .count) (a .t2 .items) (y .before .loop .i + 1))
+posting : (x : tie.After-cash-price Inv-loop μ-loop)
+    → let r = x .before in
+    let y = turn r in
+    let a = start y .args in
+    let f = paymentBy (a .class) (a .latest) (positionTable (a .rows .now) (a .held)) in
+    Posting (a .ledger) (ahead f (a .dealt) (piecesOf Cash (a .sheet .now)) 0)
+    (record { payer = a .short .member; payee = r .row-at .result .member; cents = r .before .units-at .result * x .cash-price .result } ∷ ahead f (a .dealt) (piecesOf Cash (a .sheet .now)) (y .before .loop .i + 1))
     (y .before .loop .after)
-posting y =
-    place-some _ _ _ (long (y .before .before)) _ _ _ noPiece _ (y .loop-test .taken) (paid-at _ (pieceAt y) (paired y)) (y .before .loop .inv .0)
+posting x =
+    let r = x .before in
+    let y = turn r in
+    place-some _ _ _ (long (start y)) _ _ _ noPiece _ (y .loop-test .taken)
+    (rw (← same y) (payment-here _ _ _ _ (pieceAt y) _ _ _ (paired y) (owed y) (long-is r) (r .before .units-at .ensures Cash) (x .cash-price .ensures)))
+    (y .before .loop .inv .1)
 
 loop-holds : tie.Need-loop-holds Inv-loop μ-loop
-loop-holds c = (posting-start _ _ (rw (payments-each _ _) at (c .pre .room)), omega arith)
+unfolding paymentsBy pieces
+loop-holds c = (changing-start _ _ _, posting-start _ _ (c .pre .0 .room), omega arith, c .pre .1)
 
-mul-piece : tie.Need-mul-piece Inv-loop μ-loop
-mul-piece c = omega (arith, c .before .before .pre .pieces-fit .held)
+long-at-requires : tie.Need-long-at-requires Inv-loop μ-loop
+long-at-requires c κs =
+    let y = c .before in
+    omega (arith, y .loop-test .taken, start y .pre .0 .priceable .pieces-fit .held)
 
-element-copy-out-piece : tie.Need-element-copy-out-piece Inv-loop μ-loop
-element-copy-out-piece c = omega (arith, c .before .before .pre .pieces-fit .held)
+units-at-requires : tie.Need-units-at-requires Inv-loop μ-loop
+units-at-requires c κs =
+    let y = c .before .before .before in
+    omega (arith, y .loop-test .taken, start y .pre .0 .priceable .pieces-fit .held)
 
-sub-short-place : tie.Need-sub-short-place Inv-loop μ-loop
-sub-short-place c = omega (arith, paired (c .before .before) .short .above)
+sub-place : tie.Need-sub-place Inv-loop μ-loop
+sub-place c =
+    let l = c .before .before in
+    omega (arith, l .long-at .ensures Cash, paired (l .before .before) .long .above)
 
-cast-short-place : tie.Need-cast-short-place Inv-loop μ-loop
-cast-short-place c = search needs
+cast-place : tie.Need-cast-place Inv-loop μ-loop
+cast-place c = search needs
 
-mul-short : tie.Need-mul-short Inv-loop μ-loop
-mul-short c = omega (arith, paired (c .before .before) .short .below, c .before .before .before .before .pre .positions-fit .held)
+row-at-requires : tie.Need-row-at-requires Inv-loop μ-loop
+row-at-requires c κs =
+    let l = c .before .before in
+    let y = l .before .before in
+    omega (arith, l .long-at .ensures Cash, paired y .long .above, paired y .long .below, start y .pre .0 .priceable .positions-fit .held)
 
-element-copy-out-short : tie.Need-element-copy-out-short Inv-loop μ-loop
-element-copy-out-short c = omega (arith, paired (c .before .before) .short .above, paired (c .before .before) .short .below, c .before .before .before .before .pre .positions-fit .held)
+cash-price-requires : tie.Need-cash-price-requires Inv-loop μ-loop
+cash-price-requires c κs = search needs
 
-sub-long-place : tie.Need-sub-long-place Inv-loop μ-loop
-sub-long-place c = omega (arith, paired (c .before .before .before .before) .long .above)
+cast-cents : tie.Need-cast-cents Inv-loop μ-loop
+cast-cents c = search needs
 
-cast-long-place : tie.Need-cast-long-place Inv-loop μ-loop
-cast-long-place c = search needs
+mul-cents : tie.Need-mul-cents Inv-loop μ-loop
+mul-cents c =
+    let r = c .before in
+    let s = start (turn r) in
+    let few : r .before .units-at .result < 4294967296 = omega arith in
+    record { fits = piece-fits _ _ _ _ _ _ few (s .pre .0 .reference) (reference r) (s .pre .0 .priceable .price) (c .cash-price .ensures) }
 
-mul-long : tie.Need-mul-long Inv-loop μ-loop
-mul-long c = omega (arith, paired (c .before .before .before .before) .long .below, c .before .before .before .before .before .before .pre .positions-fit .held)
-
-element-copy-out-long : tie.Need-element-copy-out-long Inv-loop μ-loop
-element-copy-out-long c = omega (arith, paired (c .before .before .before .before) .long .above, paired (c .before .before .before .before) .long .below, c .before .before .before .before .before .before .pre .positions-fit .held)
+put-cents-requires : tie.Need-put-cents-requires Inv-loop μ-loop
+put-cents-requires c κs =
+    let y = turn (c .before .before) in
+    (y .before .loop .inv .3, omega (arith, y .loop-test .taken, start y .pre .0 .priceable .pieces-fit .held))
 
 raise-place-requires : tie.Need-raise-place-requires Inv-loop μ-loop
 raise-place-requires c κs =
-    let y = c .before .before .before .before .before .before in
-    (omega (arith, accounted y .0 .member, accounted y .1 .member), credit-fits _ _ _ (posting y .room) _)
+    let x = c .before .before .before in
+    (accounted (x .before) .member, credit-fits _ _ _ (posting x .room) _)
 
 raise-place-requires-2 : tie.Need-raise-place-requires-2 Inv-loop μ-loop
 raise-place-requires-2 c κs =
-    let y = c .before .before .before .before .before .before .before .before in
-    (omega (arith, accounted y .0 .member, accounted y .1 .member), debit-fits _ _ _ (posting y .room) _)
+    let x = c .before .before .before .before .before in
+    (start (turn (x .before)) .pre .0 .payer, debit-fits _ _ _ (posting x .room) _)
 
 add-i : tie.Need-add-i Inv-loop μ-loop
-add-i c = omega (arith, c .before .before .before .before .before .before .before .before .before .before .before .pre .pieces-fit .held)
+add-i c =
+    let y = turn (c .before .before .before .before .before .before .before) in
+    omega (arith, y .loop-test .taken, start y .pre .0 .priceable .pieces-fit .held)
 
 loop-less : tie.Need-loop-less Inv-loop μ-loop
-loop-less c = omega arith
+loop-less c = omega (arith, turn (c .before .before .before .before .before .before .before) .loop-test .taken)
 
 loop-again : tie.Need-loop-again Inv-loop μ-loop
 loop-again c =
-    (rw (c .before .before .raise-place .ensures, c .raise-place2 .ensures) (posting-one _ _ _ _ _ (posting (c .before .before .before .before .before .before .before .before .before))), omega arith)
+    let w = c .before .before .before .before in
+    let x = w .before .before in
+    let r = x .before in
+    let y = turn r in (
+      rw (w .put-cents .ensures .0 Cash)
+          (changing-one _ _ _ (long (start y)) _ _ noPiece (y .loop-test .taken) (y .before .loop .inv .0) _ (priced-here _ _ _ _ (pieceAt y) _ _ _ (paired y) (owed y) (long-is r) (r .before .units-at .ensures Cash) (x .cash-price .ensures))),
+      rw (c .before .before .raise-place .ensures, c .raise-place2 .ensures) (posting-one _ _ _ _ _ (posting x)),
+      omega (arith, y .loop-test .taken),
+      w .put-cents .ensures .1,
+    )
 
 returns : tie.Need-returns Inv-loop μ-loop
-returns c = rw (payments-each _ _) (place-end _ _ _ (long (c .before .before)) _ _ _ (c .loop-test .left) (c .before .loop .inv .0))
+unfolding paymentsBy pieces
+returns c =
+    let i = c .before .loop .inv in
+    let s = c .before .before in
+    let f = s .pre .0 .priceable .pieces-fit in (
+      record {
+        many = refl;
+        priced = changing-end _ _ _ (long s) _ _ (c .loop-test .left) (i .2) (i .0);
+        fit = record { places = i .0 .size ∙ f .places; held = f .held };
+      },
+      place-end _ _ _ (long s) _ _ _ (c .loop-test .left) (i .1),
+      i .3,
+    )
 
 pub post-payments-spec : {M : Type 1} → statement M
 post-payments-spec =
@@ -116,16 +183,15 @@ post-payments-spec =
     Inv-loop
     μ-loop
     loop-holds
-    mul-piece
-    element-copy-out-piece
-    sub-short-place
-    cast-short-place
-    mul-short
-    element-copy-out-short
-    sub-long-place
-    cast-long-place
-    mul-long
-    element-copy-out-long
+    long-at-requires
+    units-at-requires
+    sub-place
+    cast-place
+    row-at-requires
+    cash-price-requires
+    cast-cents
+    mul-cents
+    put-cents-requires
     raise-place-requires
     raise-place-requires-2
     add-i

@@ -5,29 +5,27 @@ use Rattle.player.proofs.Pages.{Among, wrote-among}
 use Rattle.player.proofs.print_end.Statement.{statement}
 use Rattle.player.proofs.print_end.Tie as tie
 
-blank-page-requires : tie.Need-blank-page-requires
-blank-page-requires c κs = search needs
-
-slice-aggregate-end-lines : tie.Need-slice-aggregate-end-lines
-slice-aggregate-end-lines c = search needs
-
 end-lines-requires : tie.Need-end-lines-requires
-end-lines-requires c κs = search needs
+end-lines-requires c κs = c .before .before .pre .0
 
 -- the bytes that were written are among those of the page
-used : (c : tie.After-page2) → Among (c .before .end-lines .result) (c .before .end-lines .last .0)
+used : (c : tie.After-slice-known2) → let w = c .before .before in Among (w .end-lines .result) (w .end-lines .last .0)
 used c =
-    let w = c .before in
-    wrote-among _ _ _ _ _ (omega (arith, w .before .before .blank-page .ensures)) (w .end-lines .ensures)
+    let w = c .before .before in
+    let s = w .before .before .before in
+    wrote-among _ _ _ _ _ (omega (arith, s .pre .1)) (w .end-lines .ensures (s .pre .0 .0) (s .pre .0 .1) (s .pre .0 .2))
 
-array-share-prefix-page : tie.Need-array-share-prefix-page
-array-share-prefix-page c = used c .0
+slice-reshare-prefix-write-all : tie.Need-slice-reshare-prefix-write-all
+slice-reshare-prefix-write-all c = used c .0
 
 slice-aggregate-write-all : tie.Need-slice-aggregate-write-all
 slice-aggregate-write-all c = used (c .before) .1
 
 write-all-requires : tie.Need-write-all-requires
 write-all-requires c κs = search needs
+
+same-length : tie.Need-same-length
+same-length c = search needs
 
 returns : tie.Need-returns
 returns c = search needs
@@ -36,10 +34,9 @@ pub print-end-spec : {M : Type 1} → statement M
 print-end-spec =
     tie.close
     (tie.spec
-    blank-page-requires
-    slice-aggregate-end-lines
     end-lines-requires
-    array-share-prefix-page
+    slice-reshare-prefix-write-all
     slice-aggregate-write-all
     write-all-requires
+    same-length
     returns)

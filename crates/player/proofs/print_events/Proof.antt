@@ -1,63 +1,69 @@
 -- `player::print_events` meets its contract. The loop's invariant: the events that are left decide the last book.
 use Prim.Native.Nat.{_-_}
 use native.Mathlib.Omega.{arith}
-use mathlib.Core.Path.{refl, sym}
+use mathlib.Core.Path.{_≡_, refl, sym, _∙_}
+use lib.ListN.{length}
+use borrow.Author.Needs.{needs}
+use Rattle.calls.specs.View.{numbers}
 use Rattle.player.proofs.Pages.{Between, played-among, next-page, all-played}
 use Rattle.player.proofs.print_events.Statement.{statement}
 use Rattle.player.proofs.print_events.Tie as tie
 
 abbrev Inv-loop : tie.InvT-loop
-Inv-loop file page₀ count played₀ i₀ page played i = Between file played₀ page played i
+Inv-loop page₀ file rows₀ trades₀ awards₀ counts₀ sheet₀ count played₀ i₀ page rows trades awards counts sheet played i =
+    (Between file played₀ (numbers rows₀ trades₀ awards₀ counts₀) page played (numbers rows trades awards counts) i)
+    × (length sheet ≡ 4096)
+    × (length page ≡ length page₀)
 
 abbrev μ-loop : tie.MeasureT-loop
-μ-loop file page₀ count played₀ i₀ page played i = count - i
-
-blank-page-requires : tie.Need-blank-page-requires Inv-loop μ-loop
-blank-page-requires c κs = tt
+μ-loop page₀ file rows₀ trades₀ awards₀ counts₀ sheet₀ count played₀ i₀ page rows trades awards counts sheet played i = count - i
 
 events-in-requires : tie.Need-events-in-requires Inv-loop μ-loop
-events-in-requires c κs = tt
+events-in-requires c κs = search needs
 
 cast-count : tie.Need-cast-count Inv-loop μ-loop
 cast-count c = omega arith
 
 loop-holds : tie.Need-loop-holds Inv-loop μ-loop
 loop-holds c =
-    let b = c .before in
-    let start = b .before .before in
-    record { long = b .blank-page .ensures; valid = start .pre; place = omega arith; book = refl }
-
-slice-aggregate-play-events : tie.Need-slice-aggregate-play-events Inv-loop μ-loop
-slice-aggregate-play-events c = sym (c .before .before .loop .inv .long)
+    let s = c .before .before .before in
+    (record { long = s .pre .2; held = s .pre .0; place = omega arith; book = refl }, s .pre .1, refl)
 
 play-events-requires : tie.Need-play-events-requires Inv-loop μ-loop
-play-events-requires c κs = c .before .before .loop .inv .valid
+play-events-requires c κs =
+    let k = c .before .before .before .before .before .before .before in
+    (k .loop .inv .0 .held, k .loop .inv .1)
 
-array-share-prefix-page : tie.Need-array-share-prefix-page Inv-loop μ-loop
-array-share-prefix-page c = played-among _ _ _ _ _ _ (c .before .play-events .ensures) .0
+slice-reshare-prefix-write-all : tie.Need-slice-reshare-prefix-write-all Inv-loop μ-loop
+slice-reshare-prefix-write-all c = played-among _ _ _ _ _ _ _ _ (c .before .before .play-events .ensures .0) .0
 
 slice-aggregate-write-all : tie.Need-slice-aggregate-write-all Inv-loop μ-loop
-slice-aggregate-write-all c = played-among _ _ _ _ _ _ (c .before .before .play-events .ensures) .1
+slice-aggregate-write-all c = played-among _ _ _ _ _ _ _ _ (c .before .before .before .play-events .ensures .0) .1
 
 write-all-requires : tie.Need-write-all-requires Inv-loop μ-loop
-write-all-requires c κs = tt
+write-all-requires c κs = search needs
 
 loop-less : tie.Need-loop-less Inv-loop μ-loop
 loop-less c =
-    let p = c .before .before .before .before in
-    let n = p .before .before in
+    let p = c .before .before .before .before .before in
+    let n = p .before .before .before .before .before .before .before in
     let within = n .loop-test .taken in
-    omega (arith, within, p .play-events .ensures .further (omega (arith, n .before .before .events-in .ensures, within)) (omega (arith, n .before .loop .inv .long)))
+    omega (arith, within, p .play-events .ensures .0 .further (omega (arith, n .before .before .events-in .ensures, within)) (omega (arith, n .before .loop .inv .0 .long)))
 
 loop-again : tie.Need-loop-again Inv-loop μ-loop
 loop-again c =
-    let p = c .before .before .before .before in
-    next-page _ _ _ _ _ _ _ (p .before .before .before .loop .inv) (p .play-events .ensures)
+    let p = c .before .before .before .before .before in
+    let k = p .before .before .before .before .before .before .before .before in
+    let b = next-page _ _ _ _ _ _ _ _ _ _ (k .loop .inv .0) (p .play-events .ensures .0) in
+    (b, p .play-events .ensures .1, b .long ∙ sym (k .before .before .before .before .pre .2))
+
+same-length : tie.Need-same-length Inv-loop μ-loop
+same-length c = c .before .loop .inv .2
 
 returns : tie.Need-returns Inv-loop μ-loop
 returns c =
     let k = c .before in
-    (k .loop .inv .valid, all-played _ _ _ _ _ (k .loop .inv) (omega (arith, k .before .events-in .ensures, c .loop-test .left)))
+    (all-played _ _ _ _ _ _ _ (k .loop .inv .0) (omega (arith, k .before .events-in .ensures, c .loop-test .left)), k .loop .inv .0 .long)
 
 pub print-events-spec : {M : Type 1} → statement M
 print-events-spec =
@@ -65,15 +71,14 @@ print-events-spec =
     (tie.spec
     Inv-loop
     μ-loop
-    blank-page-requires
     events-in-requires
     cast-count
     loop-holds
-    slice-aggregate-play-events
     play-events-requires
-    array-share-prefix-page
+    slice-reshare-prefix-write-all
     slice-aggregate-write-all
     write-all-requires
     loop-less
     loop-again
+    same-length
     returns)

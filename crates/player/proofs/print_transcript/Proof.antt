@@ -12,20 +12,19 @@ print-refusal-requires c κs = search needs
 returns : tie.Need-returns
 returns c = search needs
 
-sub-print-events : tie.Need-sub-print-events
-sub-print-events c = search needs
+sub-print-played : tie.Need-sub-print-played
+sub-print-played c = search needs
 
-part-print-events-start : tie.Need-part-print-events-start
-part-print-events-start c = search needs
+part-print-played-start : tie.Need-part-print-played-start
+part-print-played-start c = search needs
 
-part-print-events-end : tie.Need-part-print-events-end
-part-print-events-end c = search needs
+part-print-played-end : tie.Need-part-print-played-end
+part-print-played-end c = search needs
 
-print-events-requires : tie.Need-print-events-requires
-print-events-requires c κs = c .before .before .before .start .ensures .valid (c .before .before .if1 .left)
-
-print-end-requires : tie.Need-print-end-requires
-print-end-requires c κs = search needs
+print-played-requires : tie.Need-print-played-requires
+print-played-requires c κs =
+    let e = c .before .before in
+    e .before .start .ensures .held (e .if1 .left)
 
 returns-2 : tie.Need-returns-2
 returns-2 c = search needs
@@ -37,9 +36,8 @@ print-transcript-spec =
     start-requires
     print-refusal-requires
     returns
-    sub-print-events
-    part-print-events-start
-    part-print-events-end
-    print-events-requires
-    print-end-requires
+    sub-print-played
+    part-print-played-start
+    part-print-played-end
+    print-played-requires
     returns-2)

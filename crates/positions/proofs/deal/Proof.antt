@@ -2,43 +2,130 @@ use borrow.Author.Needs.{needs}
 use borrow.Author.Tests.{eqb-true, eqb-false}
 use native.Mathlib.Omega.{arith}
 use native.Mathlib.Nat.{eq-or-lt-of-le}
-use Prim.Native.Nat.{_≤_, _-_, _+_}
-use mathlib.Core.Path.{_≡_, refl, sym, _∙_}
+use Prim.Native.Nat.{ℕ, _≤_, _<_, _-_, _+_}
+use mathlib.Core.Path.{_≡_, refl, sym, ap, _∙_}
 use mathlib.Core.Logic.{⊎-elim}
-use lib.ListN.{getD}
+use mathlib.Core.List.{List}
+use lib.ListN.{length, getD}
 use Rattle.plain.specs.Book.{noPosition}
+use Rattle.rows.specs.Rows.{rowsOf}
+use Rattle.pieces.specs.Sheet.{piecesOf}
+use Rattle.tables.specs.Lent.{positionTable, pieceTable}
+use Rattle.pieces.proofs.Cells.{length-pieces}
+use Rattle.positions.specs.Dealing.{loweredBy, shareOf, DealtOut, ClosedBefore}
 use Rattle.positions.proofs.Shares.{due-share-is, share-open, share-left}
-use Rattle.positions.proofs.Walk.{Walk, walk-begin, walk-join, walk-next, stepped-none, stepped-some, walk-over, walk-late, walk-done, here-sized}
-use Rattle.positions.proofs.Table.{short-lowerable, start-stands, walked-deals}
+use Rattle.positions.proofs.Walk.{State, Stands, Walk, Walked, walk-begin, walk-join, walk-next, stepped-none, stepped-some, walk-over, walk-late, walk-done, here-sized}
+use Rattle.positions.proofs.Table.{short-lowerable}
+use Rattle.positions.proofs.Lent.{ends, skipped, closed-first, closed-taken, closed-passed, closed-changed}
 use Rattle.positions.proofs.deal.Statement.{statement}
 use Rattle.positions.proofs.deal.Tie as tie
 
 abbrev Inv-loop : tie.InvT-loop
-Inv-loop day short quantity manner count items₀ place own shares₀ dealt₀ left₀ i₀ settlement items shares dealt left i =
+Inv-loop rows₀ sheet₀ count day short quantity manner start place own dealt₀ left₀ i₀ settlement rows sheet dealt left i =
     Walk manner short (day .0) (own .security) count
-    (record { items = items₀; shares = shares₀; dealt = dealt₀; left = left₀; place = i₀ })
-    (record { items = items; shares = shares; dealt = dealt; left = left; place = i })
+    (record { items = rowsOf rows₀; shares = piecesOf manner sheet₀; dealt = dealt₀; left = left₀; place = i₀ })
+    (record { items = rowsOf rows; shares = piecesOf manner sheet; dealt = dealt; left = left; place = i })
     × (i₀ ≤ i)
-    × (i ≡ i₀ → getD items i noPosition .settlement .0 ≡ settlement)
+    × (i ≡ i₀ → getD (rowsOf rows) i noPosition .settlement .0 ≡ settlement)
+    × (length rows ≡ 10240)
+    × (length sheet ≡ 4096)
+    × ClosedBefore (own .security) (rowsOf rows) i
+    × (0 < left)
 
 abbrev μ-loop : tie.MeasureT-loop
-μ-loop day short quantity manner count items₀ place own shares₀ dealt₀ left₀ i₀ settlement items shares dealt left i =
+μ-loop rows₀ sheet₀ count day short quantity manner start place own dealt₀ left₀ i₀ settlement rows sheet dealt left i =
     count - i
 
 abbrev Inv-deal : tie.InvT-deal
-Inv-deal day short quantity manner count items₀ place own shares₀ dealt₀ left₀ i₀ items shares dealt left i =
+Inv-deal rows₀ sheet₀ count day short quantity manner start place own dealt₀ left₀ i₀ rows sheet dealt left i =
     Walk manner short (day .0) (own .security) count
-    (record { items = items₀; shares = shares₀; dealt = dealt₀; left = left₀; place = i₀ })
-    (record { items = items; shares = shares; dealt = dealt; left = left; place = i })
+    (record { items = rowsOf rows₀; shares = piecesOf manner sheet₀; dealt = dealt₀; left = left₀; place = i₀ })
+    (record { items = rowsOf rows; shares = piecesOf manner sheet; dealt = dealt; left = left; place = i })
+    × (length rows ≡ 10240)
+    × (length sheet ≡ 4096)
+    × ClosedBefore (own .security) (rowsOf rows) i
+    × (0 < left)
 
 abbrev μ-deal : tie.MeasureT-deal
-μ-deal day short quantity manner count items₀ place own shares₀ dealt₀ left₀ i₀ items shares dealt left i =
+μ-deal rows₀ sheet₀ count day short quantity manner start place own dealt₀ left₀ i₀ rows sheet dealt left i =
     count - i
+
+-- where the turn of the inner loop began in which a share is worked out
+abbrev turn : tie.After-share-of Inv-loop μ-loop Inv-deal μ-deal → tie.At-loop Inv-loop μ-loop Inv-deal μ-deal
+turn c = c .before .before .before .before .before .before .before
+
+-- where the turn of the outer loop began, with a delivery day
+abbrev day-begun : tie.At-loop Inv-loop μ-loop Inv-deal μ-deal → tie.At-deal Inv-loop μ-loop Inv-deal μ-deal
+day-begun c = c .before .before .before .before .before .before
+
+-- where the function began, from where the short is lowered
+abbrev opened : tie.After-put-row Inv-loop μ-loop Inv-deal μ-deal → tie.Start Inv-loop μ-loop Inv-deal μ-deal
+opened c = c .before .before .before .before .before
+
+-- where the function began
+abbrev started : tie.At-deal Inv-loop μ-loop Inv-deal μ-deal → tie.Start Inv-loop μ-loop Inv-deal μ-deal
+started c = opened (c .before)
+
+-- the share with which the quantity is dealt out
+abbrev dealt-share : tie.Then4 Inv-loop μ-loop Inv-deal μ-deal → tie.After-share-of Inv-loop μ-loop Inv-deal μ-deal
+dealt-share c = c .before .before .before .before .before .before .before
+
+-- the walk is at a place in use
+in-table : (c : tie.After-share-of Inv-loop μ-loop Inv-deal μ-deal) → turn c .loop .i < started (day-begun (turn c)) .args .count
+in-table c = c .before .before .before .before .before .before .loop-test .taken
 
 -- a position of the day that the walk is at is due
 is-due : (c : tie.After-share-of Inv-loop μ-loop Inv-deal μ-deal)
-    → getD (c .before .before .before .before .loop .items) (c .before .before .before .before .loop .i) noPosition .settlement .0 ≤ c .before .before .before .before .before .before .before .before .before .before .before .before .before .args .day .0
-is-due c = omega (arith, eqb-true, c .before .before, c .before .before .before .before .before .if1 .left)
+    → getD (rowsOf (turn c .loop .rows)) (turn c .loop .i) noPosition .settlement .0 ≤ (started (day-begun (turn c))) .args .day .0
+is-due c = omega (arith, eqb-true, c .before .before .before .if2 .taken, c .before .before .before .before .settlement-at2 .ensures, turn c .before .if1 .left)
+
+-- what a long takes is its share of what is left
+own-share : (c : tie.After-share-of Inv-loop μ-loop Inv-deal μ-deal)
+    → c .share-of .result ≡ shareOf (day-begun (turn c) .before .before .before .before .row-at .result .security) (turn c .loop .left) (getD (rowsOf (turn c .loop .rows)) (turn c .loop .i) noPosition)
+own-share c = rw (c .before .row-at2 .ensures) at (c .share-of .ensures)
+
+-- the walk's state when the short is lowered
+abbrev begun : tie.After-put-row Inv-loop μ-loop Inv-deal μ-deal → State
+begun p =
+    record {
+      items = rowsOf (p .put-row .last .0);
+      shares = piecesOf (opened p .args .manner) (opened p .args .sheet .now);
+      dealt = 0;
+      left = opened p .args .quantity;
+      place = 0;
+    }
+
+-- a later state of it, by the numbers that the tables hold
+abbrev state : tie.After-put-row Inv-loop μ-loop Inv-deal μ-deal → List ℕ → List ℕ → ℕ → ℕ → ℕ → State
+state p rows sheet dealt left place =
+    record { items = rowsOf rows; shares = piecesOf (opened p .args .manner) sheet; dealt = dealt; left = left; place = place }
+
+-- a walk of this short's quantity from there on
+abbrev Walks : tie.After-put-row Inv-loop μ-loop Inv-deal μ-deal → State → State → Type 0
+Walks p =
+    Walk (opened p .args .manner) (opened p .args .short) (opened p .args .day .0) (p .before .before .before .row-at .result .security) (opened p .args .count)
+
+-- the places before the start place take nothing
+passed-over : (p : tie.After-put-row Inv-loop μ-loop Inv-deal μ-deal)
+    → Walks p (begun p) (state p (p .put-row .last .0) (opened p .args .sheet .now) 0 (opened p .args .quantity) (opened p .args .start))
+passed-over p =
+    skipped _ _ _ _ _ (opened p .pre .dealing) _ _ _ (p .before .before .before .row-at .ensures) (p .before .lowered-by .ensures) _ (p .put-row .ensures .0)
+    _ (length-pieces (opened p .args .manner) (opened p .args .sheet .now)) _ (opened p .pre .within) (opened p .pre .closed)
+
+-- the walk up to where the turn of the outer loop began
+so-far : (d : tie.At-deal Inv-loop μ-loop Inv-deal μ-deal) → Walks (d .before) (begun (d .before)) (state (d .before) (d .deal .rows) (d .deal .sheet) (d .deal .dealt) (d .deal .left) (d .deal .i))
+so-far d = walk-join _ _ _ _ _ _ _ _ (passed-over (d .before)) (d .deal .inv .0)
+
+-- what the whole walk comes to
+dealt-out : (d : tie.At-deal Inv-loop μ-loop Inv-deal μ-deal) (rows sheet : List ℕ) (dealt left place : ℕ)
+    → Stands (started d .args .count) (state (d .before) rows sheet dealt left place)
+    → Walked (started d .args .manner) (started d .args .short) (started d .args .day .0) (d .before .before .before .before .row-at .result .security)
+    (started d .args .count) (begun (d .before)) (state (d .before) rows sheet dealt left place)
+    → DealtOut (positionTable (started d .args .rows .now) (started d .args .count)) (started d .args .day .0) (started d .args .short) (started d .args .quantity) (started d .args .manner)
+    (record { positions = positionTable rows (started d .args .count); pieces = pieceTable (started d .args .manner) sheet dealt })
+dealt-out d rows sheet dealt left place stands walked =
+    ends _ _ _ _ _ (started d .pre .dealing) _ _ _ (d .before .before .before .before .row-at .ensures) (d .before .before .lowered-by .ensures) _ (d .before .put-row .ensures .0)
+    _ (length-pieces (started d .args .manner) (started d .args .sheet .now)) rows _ dealt left place stands walked
 
 sub-place : tie.Need-sub-place Inv-loop μ-loop Inv-deal μ-deal
 sub-place c = omega arith
@@ -46,93 +133,91 @@ sub-place c = omega arith
 cast-place : tie.Need-cast-place Inv-loop μ-loop Inv-deal μ-deal
 cast-place c = omega arith
 
-mul-own : tie.Need-mul-own Inv-loop μ-loop Inv-deal μ-deal
-mul-own c = omega arith
-
-array-copy-out-own : tie.Need-array-copy-out-own Inv-loop μ-loop Inv-deal μ-deal
-array-copy-out-own c = omega arith
+row-at-requires : tie.Need-row-at-requires Inv-loop μ-loop Inv-deal μ-deal
+row-at-requires c κs = omega arith
 
 lowered-by-requires : tie.Need-lowered-by-requires Inv-loop μ-loop Inv-deal μ-deal
-lowered-by-requires c κs = short-lowerable _ _ _ _ (c .before .before .pre)
+lowered-by-requires c κs = rw (c .before .row-at .ensures) (short-lowerable _ _ _ _ (c .before .before .before .pre .dealing))
 
-mul-items : tie.Need-mul-items Inv-loop μ-loop Inv-deal μ-deal
-mul-items c = omega arith
-
-array-set-from-items : tie.Need-array-set-from-items Inv-loop μ-loop Inv-deal μ-deal
-array-set-from-items c = omega arith
-
-blank-pieces-requires : tie.Need-blank-pieces-requires Inv-loop μ-loop Inv-deal μ-deal
-blank-pieces-requires c κs = search needs
+put-row-requires : tie.Need-put-row-requires Inv-loop μ-loop Inv-deal μ-deal
+put-row-requires c κs = (c .before .before .before .before .pre .rows-length, omega arith)
 
 deal-holds : tie.Need-deal-holds Inv-loop μ-loop Inv-deal μ-deal
-deal-holds c = walk-begin _ _ _ _ _ _ (start-stands _ _ _ _ (c .before .before .before .before .pre) _ _ (c .before .lowered-by .ensures) _ (c .blank-pieces .ensures))
+deal-holds c = (
+  walk-begin _ _ _ _ _ _ (passed-over c .stands),
+  c .put-row .ensures .1,
+  opened c .pre .sheet-length,
+  closed-first _ _ _ _ _ (opened c .pre .dealing) _ _ _ (c .before .before .before .row-at .ensures) (c .before .lowered-by .ensures) _ (c .put-row .ensures .0)
+      (begun c .shares) (length-pieces (opened c .args .manner) (opened c .args .sheet .now)) _ (opened c .pre .within) (opened c .pre .closed),
+  opened c .pre .some,
+)
 
-mul-settlement : tie.Need-mul-settlement Inv-loop μ-loop Inv-deal μ-deal
-mul-settlement c = omega arith
-
-element-copy-out-settlement : tie.Need-element-copy-out-settlement Inv-loop μ-loop Inv-deal μ-deal
-element-copy-out-settlement c = omega arith
+settlement-at-requires : tie.Need-settlement-at-requires Inv-loop μ-loop Inv-deal μ-deal
+settlement-at-requires c κs = omega arith
 
 loop-holds : tie.Need-loop-holds Inv-loop μ-loop Inv-deal μ-deal
-loop-holds c = (walk-begin _ _ _ _ _ _ (c .before .before .before .deal .inv .stands), omega arith, λ e. refl)
+loop-holds c =
+    let h = c .before .before .before .before .before .deal .inv in
+    (walk-begin _ _ _ _ _ _ (h .0 .stands), omega arith, λ e. sym (c .before .before .settlement-at .ensures), h .1, h .2, h .3, h .4)
 
-mul-if2 : tie.Need-mul-if2 Inv-loop μ-loop Inv-deal μ-deal
-mul-if2 c = omega arith
-
-element-copy-out-if2 : tie.Need-element-copy-out-if2 Inv-loop μ-loop Inv-deal μ-deal
-element-copy-out-if2 c = omega arith
+settlement-at-requires-2 : tie.Need-settlement-at-requires-2 Inv-loop μ-loop Inv-deal μ-deal
+settlement-at-requires-2 c κs = omega arith
 
 deal-less : tie.Need-deal-less Inv-loop μ-loop Inv-deal μ-deal
-deal-less c = ⊎-elim (λ e. absurd (eqb-false _ _ (c .if2 .left) (c .before .before .loop .inv .2 (sym e)))) (λ lt. omega arith) (eq-or-lt-of-le (c .before .before .loop .inv .1))
+deal-less c =
+    ⊎-elim
+    (λ e. absurd (eqb-false _ _ (c .if2 .left) (c .before .settlement-at2 .ensures ∙ c .before .before .before .before .loop .inv .2 (sym e))))
+    (λ lt. omega arith)
+    (eq-or-lt-of-le (c .before .before .before .before .loop .inv .1))
 
 deal-again : tie.Need-deal-again Inv-loop μ-loop Inv-deal μ-deal
-deal-again c = walk-join _ _ _ _ _ _ _ _ (c .before .before .before .before .before .before .deal .inv) (c .before .before .loop .inv .0)
+deal-again c =
+    let k = c .before .before .before .before in
+    (walk-join _ _ _ _ _ _ _ _ (day-begun k .deal .inv .0) (k .loop .inv .0), k .loop .inv .3, k .loop .inv .4, k .loop .inv .5, k .loop .inv .6)
 
 deal-less-2 : tie.Need-deal-less-2 Inv-loop μ-loop Inv-deal μ-deal
 deal-less-2 c = omega arith
 
 deal-again-2 : tie.Need-deal-again-2 Inv-loop μ-loop Inv-deal μ-deal
-deal-again-2 c = walk-join _ _ _ _ _ _ _ _ (c .before .before .before .before .before .deal .inv) (c .before .loop .inv .0)
+deal-again-2 c =
+    let k = c .before in
+    (walk-join _ _ _ _ _ _ _ _ (day-begun k .deal .inv .0) (k .loop .inv .0), k .loop .inv .3, k .loop .inv .4, k .loop .inv .5, k .loop .inv .6)
 
-mul-long : tie.Need-mul-long Inv-loop μ-loop Inv-deal μ-deal
-mul-long c = omega arith
-
-array-copy-out-long : tie.Need-array-copy-out-long Inv-loop μ-loop Inv-deal μ-deal
-array-copy-out-long c = omega arith
+row-at-requires-2 : tie.Need-row-at-requires-2 Inv-loop μ-loop Inv-deal μ-deal
+row-at-requires-2 c κs = omega arith
 
 share-of-requires : tie.Need-share-of-requires Inv-loop μ-loop Inv-deal μ-deal
 share-of-requires c κs = search needs
 
-add-piece-of : tie.Need-add-piece-of Inv-loop μ-loop Inv-deal μ-deal
-add-piece-of c = omega arith
+add-put-piece : tie.Need-add-put-piece Inv-loop μ-loop Inv-deal μ-deal
+add-put-piece c = omega arith
 
-cast-piece-of : tie.Need-cast-piece-of Inv-loop μ-loop Inv-deal μ-deal
-cast-piece-of c = omega arith
+cast-put-piece : tie.Need-cast-put-piece Inv-loop μ-loop Inv-deal μ-deal
+cast-put-piece c = omega arith
 
-piece-of-requires : tie.Need-piece-of-requires Inv-loop μ-loop Inv-deal μ-deal
-piece-of-requires c κs = search needs
-
-mul-shares : tie.Need-mul-shares Inv-loop μ-loop Inv-deal μ-deal
-mul-shares c = omega arith
-
-array-set-from-shares : tie.Need-array-set-from-shares Inv-loop μ-loop Inv-deal μ-deal
-array-set-from-shares c = omega arith
+put-piece-requires : tie.Need-put-piece-requires Inv-loop μ-loop Inv-deal μ-deal
+put-piece-requires c κs =
+    let s = c .before .before in
+    (turn s .loop .inv .4, omega (arith, turn s .loop .inv .0 .stands, in-table s))
 
 add-dealt : tie.Need-add-dealt Inv-loop μ-loop Inv-deal μ-deal
 add-dealt c = omega arith
 
 lowered-by-requires-2 : tie.Need-lowered-by-requires-2 Inv-loop μ-loop Inv-deal μ-deal
-lowered-by-requires-2 c κs = record { enough = rw (c .before .before .share-of .ensures) (share-open _ _ _); sized = here-sized _ _ (c .before .before .before .before .before .before .loop .inv .0 .stands) (c .before .before .before .before .before .loop-test .taken) }
+lowered-by-requires-2 c κs =
+    let s = c .before .before .before .before in
+    record {
+      enough = rw (c .before .before .before .before .share-of .ensures) (share-open _ _ _);
+      sized = rw (c .before .before .before .before .before .row-at2 .ensures) (here-sized _ _ (turn s .loop .inv .0 .stands) (in-table s));
+    }
 
-mul-items-2 : tie.Need-mul-items-2 Inv-loop μ-loop Inv-deal μ-deal
-mul-items-2 c = omega arith
-
-array-set-from-items-2 :
-    tie.Need-array-set-from-items-2 Inv-loop μ-loop Inv-deal μ-deal
-array-set-from-items-2 c = omega arith
+put-row-requires-2 : tie.Need-put-row-requires-2 Inv-loop μ-loop Inv-deal μ-deal
+put-row-requires-2 c κs =
+    let s = c .before .before .before .before .before in
+    (turn s .loop .inv .3, omega (arith, turn s .loop .inv .0 .stands .few, in-table s))
 
 sub-left : tie.Need-sub-left Inv-loop μ-loop Inv-deal μ-deal
-sub-left c = rw (c .before .before .before .share-of .ensures) (share-left _ _ _)
+sub-left c = rw (c .before .before .before .before .before .before .share-of .ensures) (share-left _ _ _)
 
 add-i : tie.Need-add-i Inv-loop μ-loop Inv-deal μ-deal
 add-i c = omega arith
@@ -142,33 +227,65 @@ loop-less c = omega arith
 
 loop-again : tie.Need-loop-again Inv-loop μ-loop Inv-deal μ-deal
 loop-again c =
-    let a = c .before .before .before .before .before in
-    let share = due-share-is _ _ _ _ (is-due (c .before)) ∙ sym (c .before .share-of .ensures) in
-    let more = walk-next _ _ _ _ _ _ _ (record { items = c .if3 .items; shares = c .if3 .shares; dealt = c .if3 .dealt; left = c .if3 .left; place = a .loop .i + 1 }) (a .loop .inv .0) (c .before .before .before .before .loop-test .taken) in (
+    let a = turn (c .before) in
+    let share = due-share-is _ _ _ _ (is-due (c .before)) ∙ sym (own-share (c .before)) in
+    let within = in-table (c .before) in
+    let more = walk-next _ _ _ _ _ _ _ (state (day-begun a .before) (c .if3 .rows) (c .if3 .sheet) (c .if3 .dealt) (c .if3 .left) (a .loop .i + 1)) (a .loop .inv .0) within in (
       ⊎-elim
-          (λ w. more (stepped-some _ _ _ _ _ _ _ _ _ share (w .0 .taken) (w .2 .ensures) (w .1 .ensures) (omega (arith, a .loop .inv .0 .stands)) (w .7) refl (w .4) (w .5) (w .6)))
-          (λ w. more (stepped-none _ _ _ _ _ _ (share ∙ omega (arith, w .0 .left)) (w .4) refl (w .1) (w .2) (w .3)))
+          (λ w. more (stepped-some _ _ _ _ _ _ _ _ _ share (w .0 .taken) (w .4 .ensures ∙ ap (loweredBy _ _) (c .before .before .row-at2 .ensures)) refl (omega (arith, a .loop .inv .0 .stands, within)) (w .10) refl (ap rowsOf (w .7) ∙ w .5 .ensures .0) (ap (piecesOf _) (w .8) ∙ w .2 .ensures .0 _) (w .9)))
+          (λ w. more (stepped-none _ _ _ _ _ _ (share ∙ omega (arith, w .0 .left)) (w .4) refl (ap rowsOf (w .1)) (ap (piecesOf _) (w .2)) (w .3)))
           (c .if3 .came),
       omega arith,
       λ e. absurd (omega arith),
+      ⊎-elim (λ w. ap length (w .7) ∙ w .5 .ensures .1) (λ w. ap length (w .1) ∙ a .loop .inv .3) (c .if3 .came),
+      ⊎-elim (λ w. ap length (w .8) ∙ w .2 .ensures .1) (λ w. ap length (w .2) ∙ a .loop .inv .4) (c .if3 .came),
+      ⊎-elim
+          (λ w. closed-taken _ _ _ _ _ _ _ _ (ap rowsOf (w .7) ∙ w .5 .ensures .0) (w .4 .ensures ∙ ap (loweredBy _ _) (c .before .before .row-at2 .ensures)) (own-share (c .before)) (omega (arith, w .6 .left)) (omega (arith, a .loop .inv .0 .stands, within)) (a .loop .inv .5))
+          (λ w. closed-passed _ _ _ _ _ _ (ap rowsOf (w .1)) (own-share (c .before)) (omega (arith, w .0 .left)) (a .loop .inv .6) (a .loop .inv .5))
+          (c .if3 .came),
+      ⊎-elim (λ w. omega (arith, w .10, w .6 .left)) (λ w. omega (arith, w .4, a .loop .inv .6)) (c .if3 .came),
     )
 
 returns : tie.Need-returns Inv-loop μ-loop Inv-deal μ-deal
-returns c = walked-deals _ _ _ _ (c .before .before .before .before .before .before .pre) _ _ (c .before .before .before .lowered-by .ensures) _ (c .before .before .blank-pieces .ensures) _ (c .before .deal .inv .stands) (walk-over _ _ _ _ _ _ _ (c .before .deal .inv) (c .deal-test .left))
+returns c =
+    let d = c .before in
+    record {
+      dealt = dealt-out d (d .deal .rows) (d .deal .sheet) (d .deal .dealt) (d .deal .left) (d .deal .i) (d .deal .inv .0 .stands) (walk-over _ _ _ _ _ _ _ (so-far d) (c .deal-test .left));
+      rows-length = d .deal .inv .1;
+      sheet-length = d .deal .inv .2;
+      within = omega (arith, d .deal .inv .0 .stands .within);
+      closed = rw (d .before .before .before .before .row-at .ensures) at (d .deal .inv .3);
+    }
 
 returns-2 : tie.Need-returns-2 Inv-loop μ-loop Inv-deal μ-deal
-returns-2 c = walked-deals _ _ _ _ (c .before .before .before .before .before .before .before .before .pre) _ _ (c .before .before .before .before .before .lowered-by .ensures) _ (c .before .before .before .before .blank-pieces .ensures) _ (c .before .before .before .deal .inv .stands) (walk-late _ _ _ _ _ _ _ (c .before .before .before .deal .inv) (c .before .before .deal-test .taken) (omega (arith, c .if1 .taken)))
+returns-2 c =
+    let d = c .before .before .before .before .before in
+    record {
+      dealt = dealt-out d (d .deal .rows) (d .deal .sheet) (d .deal .dealt) (d .deal .left) (d .deal .i) (d .deal .inv .0 .stands) (walk-late _ _ _ _ _ _ _ (so-far d) (c .before .before .before .before .deal-test .taken) (omega (arith, c .if1 .taken, c .before .before .settlement-at .ensures)));
+      rows-length = d .deal .inv .1;
+      sheet-length = d .deal .inv .2;
+      within = omega (arith, d .deal .inv .0 .stands .within);
+      closed = rw (d .before .before .before .before .row-at .ensures) at (d .deal .inv .3);
+    }
 
 returns-3 : tie.Need-returns-3 Inv-loop μ-loop Inv-deal μ-deal
 returns-3 c =
-    let a = c .before .before .before .before .before .before .before .before in
-    let b = a .before .before .before .before in
-    let share = due-share-is _ _ _ _ (is-due (c .before .before .before .before)) ∙ sym (c .before .before .before .before .share-of .ensures) in
+    let a = turn (dealt-share c) in
+    let d = day-begun a in
+    let share = due-share-is _ _ _ _ (is-due (dealt-share c)) ∙ sym (own-share (dealt-share c)) in
+    let within = in-table (dealt-share c) in
+    let last = state (d .before) (c .before .put-row2 .last .0) (c .before .before .before .before .put-piece .last .0) (a .loop .dealt + 1) (a .loop .left - dealt-share c .share-of .result) (a .loop .i + 1) in
     let w =
-    walk-join _ _ _ _ _ _ _ _ (b .deal .inv)
-    (walk-next _ _ _ _ _ _ _ _ (a .loop .inv .0) (c .before .before .before .before .before .before .before .loop-test .taken)
-    (stepped-some _ _ _ _ _ _ _ _ _ share (c .before .before .before .if3 .taken) (c .before .lowered-by2 .ensures) (c .before .before .piece-of .ensures) (omega (arith, a .loop .inv .0 .stands, c .before .before .before .before .before .before .before .loop-test .taken)) refl refl refl refl refl)) in
-    walked-deals _ _ _ _ (b .before .before .before .before .before .pre) _ _ (b .before .before .lowered-by .ensures) _ (b .before .blank-pieces .ensures) _ (w .stands) (walk-done _ _ _ _ _ _ _ w (c .if4 .taken))
+    walk-join _ _ _ _ _ _ _ _ (so-far d)
+    (walk-next _ _ _ _ _ _ _ last (a .loop .inv .0) within
+    (stepped-some _ _ _ _ _ _ _ _ _ share (c .before .before .before .before .before .before .if3 .taken) (c .before .before .lowered-by2 .ensures ∙ ap (loweredBy _ _) (dealt-share c .before .row-at2 .ensures)) refl (omega (arith, a .loop .inv .0 .stands, within)) refl refl (c .before .put-row2 .ensures .0) (c .before .before .before .before .put-piece .ensures .0 _) refl)) in
+    record {
+      dealt = dealt-out d _ _ _ _ _ (w .stands) (walk-done _ _ _ _ _ _ _ w (c .if4 .taken));
+      rows-length = c .before .put-row2 .ensures .1;
+      sheet-length = c .before .before .before .before .put-piece .ensures .1;
+      within = omega (arith, a .loop .inv .0 .stands .within);
+      closed = closed-changed _ (a .loop .left) _ _ _ _ _ _ (d .before .before .before .before .row-at .ensures) (c .before .put-row2 .ensures .0) refl (a .loop .inv .5);
+    }
 
 pub deal-spec : {M : Type 1} → statement M
 deal-spec =
@@ -180,34 +297,25 @@ deal-spec =
     μ-deal
     sub-place
     cast-place
-    mul-own
-    array-copy-out-own
+    row-at-requires
     lowered-by-requires
-    mul-items
-    array-set-from-items
-    blank-pieces-requires
+    put-row-requires
     deal-holds
-    mul-settlement
-    element-copy-out-settlement
+    settlement-at-requires
     loop-holds
-    mul-if2
-    element-copy-out-if2
+    settlement-at-requires-2
     deal-less
     deal-again
     deal-less-2
     deal-again-2
-    mul-long
-    array-copy-out-long
+    row-at-requires-2
     share-of-requires
-    add-piece-of
-    cast-piece-of
-    piece-of-requires
-    mul-shares
-    array-set-from-shares
+    add-put-piece
+    cast-put-piece
+    put-piece-requires
     add-dealt
     lowered-by-requires-2
-    mul-items-2
-    array-set-from-items-2
+    put-row-requires-2
     sub-left
     add-i
     loop-less

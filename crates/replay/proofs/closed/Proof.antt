@@ -1,27 +1,30 @@
--- `replay::closed` meets its contract. The loop's invariant: the closes that are left give what all of them give on the book at the start.
-use Prim.Native.Nat.{_-_}
+-- `replay::closed` meets its contract. The loop's invariant: the closes that are left decide what the book will be.
 use native.Mathlib.Omega.{arith}
 use mathlib.Core.Path.{_≡_, refl, sym, _∙_}
 use lib.ListN.{replicate}
 use Rattle.plain.specs.Histories.{run}
-use Rattle.book.specs.View.{view, Valid}
+use Rattle.calls.specs.View.{Numbers, numbers, bookOf, Held}
 use Rattle.replay.specs.Replay.{closing}
 use Rattle.replay.proofs.Left.{close-next, close-none}
 use Rattle.replay.proofs.closed.Statement.{statement}
 use Rattle.replay.proofs.closed.Tie as tie
 
 abbrev Inv-loop : tie.InvT-loop
-Inv-loop closes after₀ left₀ after left =
-    (Valid after) × (run (view after) (replicate left closing) ≡ run (view after₀) (replicate closes closing))
+Inv-loop rows₀ trades awards counts₀ closes after₀ left₀ rows counts after left =
+    (Held after (numbers rows trades awards counts))
+    × (run (bookOf after (numbers rows trades awards counts)) (replicate left closing) ≡ run (bookOf after₀ (numbers rows₀ trades awards counts₀)) (replicate closes closing))
 
 abbrev μ-loop : tie.MeasureT-loop
-μ-loop closes after₀ left₀ after left = left
+μ-loop rows₀ trades awards counts₀ closes after₀ left₀ rows counts after left = left
+
+abbrev tables : tie.At-loop Inv-loop μ-loop → Numbers
+tables k = numbers (k .loop .rows) (k .before .args .trades .now) (k .before .args .awards .now) (k .loop .counts)
 
 loop-holds : tie.Need-loop-holds Inv-loop μ-loop
 loop-holds c = (c .pre, refl)
 
 close-requires : tie.Need-close-requires Inv-loop μ-loop
-close-requires c κs = c .before .loop .inv .0
+close-requires c κs = c .before .before .before .loop .inv .0
 
 sub-left : tie.Need-sub-left Inv-loop μ-loop
 sub-left c = omega arith
@@ -31,16 +34,16 @@ loop-less c = omega arith
 
 loop-again : tie.Need-loop-again Inv-loop μ-loop
 loop-again c =
-    let k = c .before .before .before in
-    let r = c .before .close .ensures in
-    (r .valid, close-next (view (k .loop .after)) _ (k .loop .left) (c .before .before .loop-test .taken) (r .book) ∙ k .loop .inv .1)
+    let d = c .before in
+    let y = d .before .before .before in
+    let k = y .before in
+    let r = d .close .ensures .called in
+    (record { valid = r .returned .valid; lent = r .lent }, close-next (bookOf (k .loop .after) (tables k)) _ (k .loop .left) (y .loop-test .taken) (r .returned .book) ∙ k .loop .inv .1)
 
 returns : tie.Need-returns Inv-loop μ-loop
 returns c =
     let k = c .before in
-    (sym (close-none (view (k .loop .after)) (k .loop .left) (c .loop-test .left)) ∙ k .loop .inv .1, k .loop .inv .0)
+    (k .loop .inv .0, sym (close-none (bookOf (k .loop .after) (tables k)) (k .loop .left) (c .loop-test .left)) ∙ k .loop .inv .1)
 
 pub closed-spec : {M : Type 1} → statement M
-closed-spec =
-    tie.close
-    (tie.spec Inv-loop μ-loop loop-holds close-requires sub-left loop-less loop-again returns)
+closed-spec = tie.close (tie.spec Inv-loop μ-loop loop-holds close-requires sub-left loop-less loop-again returns)

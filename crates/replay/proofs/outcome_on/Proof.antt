@@ -8,16 +8,16 @@ step-requires : tie.Need-step-requires
 step-requires c κs = search needs
 
 returns : tie.Need-returns
-returns c = let r = c .step .ensures .returned in (r .number, r .quantity)
+returns c = search needs
 
-blank-sheet-requires : tie.Need-blank-sheet-requires
-blank-sheet-requires c κs = search needs
+blank-pieces-requires : tie.Need-blank-pieces-requires
+blank-pieces-requires c κs = search needs
 
 step-by-value-requires : tie.Need-step-by-value-requires
 step-by-value-requires c κs = search needs
 
 returns-2 : tie.Need-returns-2
-returns-2 c = on-longer _ _ _ _ _ _ _ (c .before .blank-sheet .ensures) (c .before .before .if1 .left) (c .step-by-value .ensures .0 .returned)
+returns-2 c = on-longer _ _ _ _ _ _ _ (c .before .blank-pieces .ensures) (c .before .before .if1 .left) (c .step-by-value .ensures .0 .returned)
 
 pub outcome-on-spec : {M : Type 1} → statement M
-outcome-on-spec = tie.close (tie.spec step-requires returns blank-sheet-requires step-by-value-requires returns-2)
+outcome-on-spec = tie.close (tie.spec step-requires returns blank-pieces-requires step-by-value-requires returns-2)

@@ -1,21 +1,34 @@
 -- `report::piece_lines` meets its contract. The invariant: the lines of the pieces passed are put, in at most 80 bytes each.
 use native.Mathlib.Omega.{arith}
-use borrow.Author.Needs.{needs}
 use Prim.Native.Nat.{ℕ, _+_, _-_, _*_, _≤_, _<_, min}
-use mathlib.Core.Path.{_≡_, ap, _∙_}
+use mathlib.Core.Path.{_≡_, ap, sym, _∙_}
+use mathlib.Core.List.{List}
 use lib.ListN.{length, take}
 use Rattle.laws.specs.Lists.{each}
-use Rattle.report.specs.Lines.{pieceLine, pieceLines}
+use Rattle.plain.specs.declared.Manner.{Manner}
+use Rattle.plain.specs.declared.Manner.the-variants.{Delivered}
+use Rattle.plain.specs.declared.Piece.{Piece}
+use Rattle.pieces.specs.Sheet.{piecesOf, unpriced}
+use Rattle.pieces.proofs.Cells.{length-pieces, in-manner}
+use Rattle.report.specs.Lines.{pieceLine, pieceLines, lines-of-any-manner}
 use Rattle.report.specs.Pages.{Put, put-none, none-wrote, put-wrote, put-text}
-use Rattle.report.proofs.Blocks.{kept-length, room, wrote-next, take-min}
+use Rattle.report.proofs.Blocks.{kept-length, room, wrote-next, take-map, take-min}
 use Rattle.report.proofs.piece_lines.Statement.{statement}
 use Rattle.report.proofs.piece_lines.Tie as tie
 
+-- the pieces, in the manner that the loop reads them in
+abbrev read : List ℕ → List Piece
+read sheet = piecesOf Delivered sheet
+
+-- their lines are those of the pieces in any manner
+any-manner : (m : Manner) (count : ℕ) (sheet : List ℕ) → pieceLines (take count (read sheet)) ≡ pieceLines (take count (piecesOf m sheet))
+any-manner m count sheet = sym (rw (in-manner m Delivered sheet, take-map, lines-of-any-manner))
+
 abbrev Inv-loop : tie.InvT-loop
-Inv-loop page₀ count pieces stop at₀ i₀ page at i = (i ≤ stop) × (at ≤ 80 * i) × Put (each pieceLine (take i pieces)) page₀ page at
+Inv-loop page₀ sheet count stop at₀ i₀ page at i = (i ≤ stop) × (at ≤ 80 * i) × Put (each pieceLine (take i (read sheet))) page₀ page at
 
 abbrev μ-loop : tie.MeasureT-loop
-μ-loop page₀ count pieces stop at₀ i₀ page at i = stop - i
+μ-loop page₀ sheet count stop at₀ i₀ page at i = stop - i
 
 at-most-requires : tie.Need-at-most-requires Inv-loop μ-loop
 at-most-requires c κs = tt
@@ -26,16 +39,13 @@ mul-if1 c = omega arith
 returns : tie.Need-returns Inv-loop μ-loop
 returns c =
     let a = c .before .before .before .args in
-    none-wrote (80 * min (a .count) 1024) (pieceLines (take (a .count) (a .t2))) (a .page .now) (omega (arith, c .if1 .taken))
+    λ m. none-wrote (80 * min (a .count) 1024) (pieceLines (take (a .count) (piecesOf m (a .sheet .now)))) (a .page .now) (omega (arith, c .if1 .taken))
 
 loop-holds : tie.Need-loop-holds Inv-loop μ-loop
 loop-holds c = (omega arith, omega arith, put-none _)
 
-mul-piece : tie.Need-mul-piece Inv-loop μ-loop
-mul-piece c = omega arith
-
-array-copy-out-piece : tie.Need-array-copy-out-piece Inv-loop μ-loop
-array-copy-out-piece c = omega arith
+piece-at-requires : tie.Need-piece-at-requires Inv-loop μ-loop
+piece-at-requires c κs = omega (arith, c .before .before .before .at-most .ensures)
 
 -- the next line has room where the others end
 free : (c : tie.In-loop Inv-loop μ-loop) → c .before .loop .at + 80 ≤ length (c .before .loop .page)
@@ -43,7 +53,7 @@ free c =
     let k = c .before .loop in
     let e = c .before .before in
     let a = e .before .before .before .args in
-    room (each pieceLine (take (k .i) (a .t2))) (a .page .now) (k .page) (k .at) (k .i) (e .before .at-most .result) (k .inv .2) (k .inv .1) (c .loop-test .taken) (e .if1 .left)
+    room (each pieceLine (take (k .i) (read (a .sheet .now)))) (a .page .now) (k .page) (k .at) (k .i) (e .before .at-most .result) (k .inv .2) (k .inv .1) (c .loop-test .taken) (e .if1 .left)
 
 sub-piece-line : tie.Need-sub-piece-line Inv-loop μ-loop
 sub-piece-line c = omega (arith, free (c .before))
@@ -68,21 +78,23 @@ loop-less c = omega arith
 
 loop-again : tie.Need-loop-again Inv-loop μ-loop
 loop-again c =
-    let n = c .before .before .before .before .before in
+    let r = c .before .before .before .before in
+    let n = r .before in
     let k = n .before .loop in
     let e = n .before .before in
     let a = e .before .before .before .args in
     let d = c .before .before .piece-line in
-    let long : length (a .t2) ≡ 1024 = search needs in
-    let i : k .i < length (a .t2) = omega (arith, e .before .at-most .ensures) in
-    (omega arith, omega (arith, d .ensures .most), wrote-next pieceLine (a .t2) _ (a .page .now) (k .page) (d .last .0) (k .at) (d .result) (k .i) (e .before .at-most .result) (n .loop-test .taken) i (e .if1 .left) (k .inv .1) (k .inv .2) (d .ensures))
+    let all = read (a .sheet .now) in
+    let i : k .i < length all = omega (arith, length-pieces Delivered (a .sheet .now), e .before .at-most .ensures) in
+    let wrote = rw (r .piece-at .ensures) at (d .ensures) in
+    (omega arith, omega (arith, d .ensures .most), wrote-next pieceLine all (unpriced Delivered 0 0 0) (a .page .now) (k .page) (d .last .0) (k .at) (d .result) (k .i) (e .before .at-most .result) (n .loop-test .taken) i (e .if1 .left) (k .inv .1) (k .inv .2) wrote)
 
 -- the page keeps its length
 same : (c : tie.After-loop Inv-loop μ-loop) → length (c .before .loop .page) ≡ length (c .before .before .before .before .before .args .page .now)
 same c =
     let k = c .before .loop in
     let a = c .before .before .before .before .before .args in
-    kept-length (each pieceLine (take (k .i) (a .t2))) (a .page .now) (k .page) (k .at) (k .inv .2) (omega (arith, k .inv .2 .bytes))
+    kept-length (each pieceLine (take (k .i) (read (a .sheet .now)))) (a .page .now) (k .page) (k .at) (k .inv .2) (omega (arith, k .inv .2 .bytes))
 
 same-length : tie.Need-same-length Inv-loop μ-loop
 same-length c = same c
@@ -93,10 +105,13 @@ returns-2 c =
     let k = c .before .loop in
     let e = c .before .before in
     let a = e .before .before .before .args in
-    let long : length (a .t2) ≡ 1024 = search needs in
+    let sheet = a .sheet .now in
     let all : k .i ≡ min (a .count) 1024 = omega (arith, e .before .at-most .ensures) in
-    let text : each pieceLine (take (k .i) (a .t2)) ≡ pieceLines (take (a .count) (a .t2)) = ap (each pieceLine) (ap (λ (n : ℕ). take n (a .t2)) all ∙ take-min (a .t2) (a .count) 1024 long) in
-    put-wrote (80 * min (a .count) 1024) (pieceLines (take (a .count) (a .t2))) (a .page .now) (k .page) (k .at) (omega (arith, e .if1 .left)) (omega (arith, ap length text, k .inv .2 .bytes)) (put-text (each pieceLine (take (k .i) (a .t2))) (pieceLines (take (a .count) (a .t2))) (a .page .now) (k .page) (k .at) text (k .inv .2))
+    let some : each pieceLine (take (k .i) (read sheet)) ≡ pieceLines (take (a .count) (read sheet)) = ap (each pieceLine) (ap (λ (n : ℕ). take n (read sheet)) all ∙ take-min (read sheet) (a .count) 1024 (length-pieces Delivered sheet)) in
+    λ m.
+    let lines = pieceLines (take (a .count) (piecesOf m sheet)) in
+    let text : each pieceLine (take (k .i) (read sheet)) ≡ lines = some ∙ any-manner m (a .count) sheet in
+    put-wrote (80 * min (a .count) 1024) lines (a .page .now) (k .page) (k .at) (omega (arith, e .if1 .left)) (omega (arith, ap length text, k .inv .2 .bytes)) (put-text (each pieceLine (take (k .i) (read sheet))) lines (a .page .now) (k .page) (k .at) text (k .inv .2))
 
 pub piece-lines-spec : {M : Type 1} → statement M
 piece-lines-spec =
@@ -108,8 +123,7 @@ piece-lines-spec =
     mul-if1
     returns
     loop-holds
-    mul-piece
-    array-copy-out-piece
+    piece-at-requires
     sub-piece-line
     part-piece-line-start
     part-piece-line-end

@@ -2,21 +2,31 @@
 use native.Mathlib.Omega.{arith}
 use Prim.Native.Nat.{ℕ, _+_, _-_, _*_, _≤_, _<_}
 use mathlib.Core.Path.{_≡_, ap, _∙_}
+use mathlib.Core.List.{List}
 use lib.ListN.{length, take, getD}
 use Rattle.laws.specs.Lists.{each, range}
 use Rattle.laws.specs.Listed.{length-range}
 use Rattle.report.specs.Pages.{Put, put-none, none-wrote, put-wrote, put-text, wrote-text}
 use Rattle.report.proofs.Blocks.{kept-length, room, wrote-next, positionText, position-here, positions-all}
-use Rattle.tables.specs.Tables.{positions}
-use Rattle.report.specs.Lines.{LINE, positionLines}
+use Rattle.rows.proofs.Cells.{length-rows}
+use Rattle.tables.specs.Tables.{PositionsFit, positions}
+use Rattle.tables.specs.Lent.{positionTable}
+use Rattle.report.specs.Lines.{LINE, positionLine, positionLines}
 use Rattle.report.proofs.position_lines.Statement.{statement}
 use Rattle.report.proofs.position_lines.Tie as tie
 
+-- the line of each position, and those of the first i
+abbrev lineOf : List ℕ → ℕ → ℕ → List ℕ
+lineOf rows count = positionText (positions (positionTable rows count))
+
+abbrev linesTo : List ℕ → ℕ → ℕ → List ℕ
+linesTo rows count i = each (lineOf rows count) (take i (range 1 count))
+
 abbrev Inv-loop : tie.InvT-loop
-Inv-loop page₀ table count at₀ i₀ page at i = (i ≤ count) × (at ≤ 80 * i) × Put (each (positionText (positions table)) (take i (range 1 count))) page₀ page at
+Inv-loop page₀ rows count at₀ i₀ page at i = (i ≤ count) × (at ≤ 80 * i) × Put (linesTo rows count i) page₀ page at
 
 abbrev μ-loop : tie.MeasureT-loop
-μ-loop page₀ table count at₀ i₀ page at i = count - i
+μ-loop page₀ rows count at₀ i₀ page at i = count - i
 
 mul-if1 : tie.Need-mul-if1 Inv-loop μ-loop
 mul-if1 c = omega arith
@@ -24,16 +34,13 @@ mul-if1 c = omega arith
 returns : tie.Need-returns Inv-loop μ-loop
 returns c =
     let a = c .before .before .args in
-    none-wrote (LINE * a .t2 .count) (positionLines (positions (a .t2))) (a .page .now) (c .if1 .taken)
+    none-wrote (LINE * a .count) (positionLines (positions (positionTable (a .rows .now) (a .count)))) (a .page .now) (c .if1 .taken)
 
 loop-holds : tie.Need-loop-holds Inv-loop μ-loop
 loop-holds c = (omega arith, omega arith, put-none _)
 
-mul-position : tie.Need-mul-position Inv-loop μ-loop
-mul-position c = omega arith
-
-element-copy-out-position : tie.Need-element-copy-out-position Inv-loop μ-loop
-element-copy-out-position c = omega arith
+row-at-requires : tie.Need-row-at-requires Inv-loop μ-loop
+row-at-requires c κs = omega arith
 
 -- the next line has room where the others end
 free : (c : tie.In-loop Inv-loop μ-loop) → c .before .loop .at + 80 ≤ length (c .before .loop .page)
@@ -41,7 +48,7 @@ free c =
     let k = c .before .loop in
     let e = c .before .before in
     let a = e .before .before .args in
-    room (each (positionText (positions (a .t2))) (take (k .i) (range 1 (a .t2 .count)))) (a .page .now) (k .page) (k .at) (k .i) (a .t2 .count) (k .inv .2) (k .inv .1) (c .loop-test .taken) (e .if1 .left)
+    room (linesTo (a .rows .now) (a .count) (k .i)) (a .page .now) (k .page) (k .at) (k .i) (a .count) (k .inv .2) (k .inv .1) (c .loop-test .taken) (e .if1 .left)
 
 sub-position-line : tie.Need-sub-position-line Inv-loop μ-loop
 sub-position-line c = omega (arith, free (c .before))
@@ -72,17 +79,20 @@ loop-less c = omega arith
 
 loop-again : tie.Need-loop-again Inv-loop μ-loop
 loop-again c =
-    let n = c .before .before .before .before .before in
+    let r = c .before .before .before .before in
+    let n = r .before in
     let k = n .before .loop in
     let e = n .before .before in
-    let s = e .before .before in
-    let a = s .args in
+    let a = e .before .before .args in
     let d = c .before .before .position-line in
-    let i : k .i < length (range 1 (a .t2 .count)) = omega (arith, length-range 1 (a .t2 .count), n .loop-test .taken) in (
+    let table = positionTable (a .rows .now) (a .count) in
+    let numbered = range 1 (a .count) in
+    let i : k .i < length numbered = omega (arith, length-range 1 (a .count), n .loop-test .taken) in
+    let here : positionLine (k .i + 1) (r .row-at .result) ≡ positionText (positions table) (getD numbered (k .i) 0) = rw (r .row-at .ensures) (position-here table (k .i) (n .loop-test .taken)) in (
       omega arith,
       omega (arith, d .ensures .most),
-      wrote-next (positionText (positions (a .t2))) (range 1 (a .t2 .count)) 0 (a .page .now) (k .page) (d .last .0) (k .at) (d .result) (k .i) (a .t2 .count) (n .loop-test .taken) i (e .if1 .left) (k .inv .1) (k .inv .2)
-          (wrote-text 80 _ (positionText (positions (a .t2)) (getD (range 1 (a .t2 .count)) (k .i) 0)) _ (d .last .0) (d .result) (position-here (a .t2) (k .i) _ (s .pre) (n .loop-test .taken)) (d .ensures)),
+      wrote-next (lineOf (a .rows .now) (a .count)) numbered 0 (a .page .now) (k .page) (d .last .0) (k .at) (d .result) (k .i) (a .count) (n .loop-test .taken) i (e .if1 .left) (k .inv .1) (k .inv .2)
+          (wrote-text 80 _ _ _ (d .last .0) (d .result) here (d .ensures)),
     )
 
 -- the page keeps its length
@@ -90,7 +100,7 @@ same : (c : tie.After-loop Inv-loop μ-loop) → length (c .before .loop .page) 
 same c =
     let k = c .before .loop in
     let a = c .before .before .before .before .args in
-    kept-length (each (positionText (positions (a .t2))) (take (k .i) (range 1 (a .t2 .count)))) (a .page .now) (k .page) (k .at) (k .inv .2) (omega (arith, k .inv .2 .bytes))
+    kept-length (linesTo (a .rows .now) (a .count) (k .i)) (a .page .now) (k .page) (k .at) (k .inv .2) (omega (arith, k .inv .2 .bytes))
 
 same-length : tie.Need-same-length Inv-loop μ-loop
 same-length c = same c
@@ -101,9 +111,11 @@ returns-2 c =
     let e = c .before .before in
     let s = e .before .before in
     let a = s .args in
-    let all : k .i ≡ a .t2 .count = omega arith in
-    let text : each (positionText (positions (a .t2))) (take (k .i) (range 1 (a .t2 .count))) ≡ positionLines (positions (a .t2)) = ap (λ (n : ℕ). each (positionText (positions (a .t2))) (take n (range 1 (a .t2 .count)))) all ∙ positions-all (a .t2) (s .pre) in
-    put-wrote (80 * a .t2 .count) (positionLines (positions (a .t2))) (a .page .now) (k .page) (k .at) (e .if1 .left) (omega (arith, ap length text, k .inv .2 .bytes)) (put-text _ (positionLines (positions (a .t2))) (a .page .now) (k .page) (k .at) text (k .inv .2))
+    let table = positionTable (a .rows .now) (a .count) in
+    let fits : PositionsFit table = record { places = length-rows (a .rows .now); held = s .pre } in
+    let all : k .i ≡ a .count = omega arith in
+    let text : linesTo (a .rows .now) (a .count) (k .i) ≡ positionLines (positions table) = ap (linesTo (a .rows .now) (a .count)) all ∙ positions-all table fits in
+    put-wrote (80 * a .count) (positionLines (positions table)) (a .page .now) (k .page) (k .at) (e .if1 .left) (omega (arith, ap length text, k .inv .2 .bytes)) (put-text _ (positionLines (positions table)) (a .page .now) (k .page) (k .at) text (k .inv .2))
 
 pub position-lines-spec : {M : Type 1} → statement M
 position-lines-spec =
@@ -114,8 +126,7 @@ position-lines-spec =
     mul-if1
     returns
     loop-holds
-    mul-position
-    element-copy-out-position
+    row-at-requires
     sub-position-line
     part-position-line-start
     part-position-line-end

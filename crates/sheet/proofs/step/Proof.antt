@@ -3,7 +3,6 @@ use mathlib.Core.Path.{refl}
 use denote.Enum.Laws as LL
 use Rattle.events.proofs.Event as E
 use Rattle.events.proofs.Event.Laws as E′
-use Rattle.book.specs.Stepping.{Stepped}
 use Rattle.book.proofs.step.Symbol as core
 use Rattle.book.proofs.step.Met as core-thm
 use Rattle.sheet.proofs.Calling.{Argument, called}
@@ -23,8 +22,6 @@ argument =
       last = λ x. tt;
       silent = λ x l. refl;
       event = λ e. e;
-      Answer = λ b n e r. Stepped b e n r;
-      stepped = λ b n e r h. h;
     }
 
 pub step-spec : {M : Type 1} → stated.statement M

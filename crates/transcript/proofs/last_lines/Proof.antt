@@ -1,18 +1,17 @@
 -- `transcript::last_lines` meets its contract.
-use Prim.Native.Nat.{ℕ, _-_}
+use Prim.Native.Nat.{ℕ, _-_, _<_}
 use native.Mathlib.Omega.{arith}
 use mathlib.Core.Path.{_≡_, ap, _∙_}
 use lib.ListN.{length, getD}
 use denote.Ref.{now}
+use borrow.Author.Needs.{needs}
 use Rattle.events.specs.declared.Event.the-variants as event
 use Rattle.events.specs.File.{eventsOf}
-use Rattle.book.specs.View.{view}
-use Rattle.tables.specs.Tables.{pieces}
+use Rattle.plain.specs.Histories.{run}
 use Rattle.report.specs.Pages.{none-wrote}
 use Rattle.transcript.specs.Transcript.{lastText}
 use Rattle.transcript.specs.Playing.{BLOCK}
 use Rattle.transcript.proofs.Showing.{last-none, last-shown}
-use borrow.Author.Needs.{needs}
 use Rattle.transcript.proofs.last_lines.Statement.{statement}
 use Rattle.transcript.proofs.last_lines.Tie as tie
 
@@ -26,12 +25,12 @@ returns : tie.Need-returns
 returns c =
     let k = c .before in
     let a = k .before .before .before .args in
-    last-none (a .book) (eventsOf (now (a .file))) (now (a .page)) (omega (arith, k .events-in .ensures, c .if1 .taken))
+    λ b opens. last-none b (eventsOf (now (a .file))) (now (a .page)) (omega (arith, k .events-in .ensures, c .if1 .taken))
 
 returns-2 : tie.Need-returns-2
 returns-2 c =
     let a = c .before .before .before .before .before .args in
-    none-wrote BLOCK (lastText (view (a .book)) (eventsOf (now (a .file)))) (now (a .page)) (c .if2 .taken)
+    λ b opens. none-wrote BLOCK (lastText b (eventsOf (now (a .file)))) (now (a .page)) (c .if2 .taken)
 
 before-last-requires : tie.Need-before-last-requires
 before-last-requires c κs = search needs
@@ -42,42 +41,42 @@ sub-event-at c = search needs
 event-at-requires : tie.Need-event-at-requires
 event-at-requires c κs = search needs
 
-blank-sheet-requires : tie.Need-blank-sheet-requires
-blank-sheet-requires c κs = search needs
+blank-pieces-requires : tie.Need-blank-pieces-requires
+blank-pieces-requires c κs = search needs
 
 step-by-value-requires : tie.Need-step-by-value-requires
 step-by-value-requires c κs = search needs
 
-cast-discharge-lines : tie.Need-cast-discharge-lines
-cast-discharge-lines c = search needs
+numbers-of-requires : tie.Need-numbers-of-requires
+numbers-of-requires c κs = search needs
 
-discharge-lines-requires : tie.Need-discharge-lines-requires
-discharge-lines-requires c κs = search needs
+cast-answer-lines : tie.Need-cast-answer-lines
+cast-answer-lines c = search needs
+
+answer-lines-requires : tie.Need-answer-lines-requires
+answer-lines-requires c κs = search needs
 
 same-length : tie.Need-same-length
 same-length c = search needs
 
 returns-3 : tie.Need-returns-3
-unfolding pieces
+unfolding run
 returns-3 c =
-    let d = c .before .before in
-    let s = d .before .before .before in
-    let e = s .before .before in
-    let p = e .before in
-    let room = p .before in
-    let k = room .before .before in
+    let w = c .before .before in
+    let n = w .before .before .before in
+    let v = n .before .before in
+    let p = v .before in
+    let e = p .before in
+    let l = e .before in
+    let y = l .before in
+    let k = y .before .before in
     let a = k .before .before .before .args in
     let events = eventsOf (now (a .file)) in
-    let last : k .events-in .result - 1 ≡ length events - 1 = omega (arith, k .events-in .ensures) in
-    last-shown (a .book) events (now (a .page)) _ (s .step-by-value .result .book) (e .event-at .result) (k .events-in .result) (s .before .blank-sheet .result) (s .step-by-value .result .items) (s .step-by-value .result .outcome) (s .step-by-value .result .count) _ _
-    (omega (arith, k .events-in .ensures, room .before .if1 .left))
-    (room .if2 .left)
-    (s .before .blank-sheet .ensures)
-    (p .before-last .ensures .0)
-    (e .event-at .ensures ∙ ap (λ (n : ℕ). getD events n event.Close) last)
-    (k .events-in .ensures)
-    (s .step-by-value .ensures .0)
-    (d .discharge-lines .ensures)
+    let some : 0 < length events = omega (arith, k .events-in .ensures, y .before .if1 .left) in
+    let place : k .events-in .result - 1 ≡ length events - 1 = omega (arith, k .events-in .ensures) in
+    λ b opens.
+    last-shown b events (now (a .page)) (l .before-last .result) _ (e .event-at .result) _ _ _ _ _ _ _ _ some (y .if2 .left) (p .blank-pieces .ensures) (l .before-last .ensures .1 b opens)
+    (e .event-at .ensures ∙ ap (λ (i : ℕ). getD events i event.Close) place) (k .events-in .ensures) (v .step-by-value .ensures .0) (n .numbers-of .ensures .0) (w .answer-lines .ensures)
 
 pub last-lines-spec : {M : Type 1} → statement M
 last-lines-spec =
@@ -90,9 +89,10 @@ last-lines-spec =
     before-last-requires
     sub-event-at
     event-at-requires
-    blank-sheet-requires
+    blank-pieces-requires
     step-by-value-requires
-    cast-discharge-lines
-    discharge-lines-requires
+    numbers-of-requires
+    cast-answer-lines
+    answer-lines-requires
     same-length
     returns-3)

@@ -1,0 +1,12 @@
+pub mod Returns
+pub mod Entered
+pub mod Started
+pub mod Walking
+pub mod Delivering
+pub mod Confirming
+pub mod Settling
+pub mod Auctions
+pub mod Closing
+pub mod Fresh
+pub mod Found
+pub mod Stepping

@@ -1,0 +1,222 @@
+-- A cash settlement in place: its refusals are the plain book's, and pricing by the positions as the dealing left them is pricing by those before it,
+-- since only members and references are gone by.
+use Prim.Native.Nat.{ℕ, zero, suc, _-_, _≤_}
+use native.Mathlib.Omega.{arith}
+use mathlib.Core.Path.{_≡_, refl, ap, sym, _∙_}
+use mathlib.Core.Logic.{_≢_}
+use mathlib.Core.List.{List, [], _∷_, _++_, map}
+use lib.ListN.{length, take, getD, length-map}
+use Rattle.laws.specs.Lists.{All, each, number}
+use Rattle.laws.specs.Alls.{all-of, all-number}
+use Rattle.rules.specs.Windows.{stepOn}
+use Rattle.rules.specs.declared.Step.{Step}
+use Rattle.register.specs.Register.{emptyRegister}
+use Rattle.events.specs.declared.Cash.{Cash}
+use Rattle.events.specs.declared.Event.the-variants as event
+use Rattle.plain.specs.declared.Position.{Position}
+use Rattle.plain.specs.declared.Piece.{Piece}
+use Rattle.plain.specs.declared.Ledger.{Ledger}
+use Rattle.plain.specs.declared.Manner.the-variants as manner
+use Rattle.plain.specs.declared.Outcome.the-variants as outcome
+use Rattle.plain.specs.Book.{noPosition, nth}
+use Rattle.plain.specs.Dealing.{lowered, lowering}
+use Rattle.plain.specs.Charging.{Charge, payment, posted}
+use Rattle.plain.specs.Calls.{call, dealt}
+use Rattle.plain.specs.Refusals.{refusal}
+use Rattle.plain.proofs.Accepted.{Within, cash-taken}
+use Rattle.plain.proofs.AwardSteps.{cash-dealable}
+use Rattle.plain.proofs.Dealt.{deals}
+use Rattle.tables.specs.Tables.{Positions}
+use Rattle.tables.specs.declared.Pieces.{Pieces}
+use Rattle.tables.specs.Tables as table
+use Rattle.pieces.specs.Sheet.{piecesOf}
+use Rattle.refusals.specs.Discharging.{lookupRefusal, cashRefusal}
+use Rattle.ledger.specs.Parts as parts
+use Rattle.ledger.specs.Parts.{pricedBy, paymentsOf, cashChargesBy}
+use Rattle.ledger.specs.Tabled.{Accounted, Priced}
+use Rattle.ledger.proofs.Elements.{position-numbered}
+use Rattle.positions.specs.Dealing.{dealtOut}
+use Rattle.tables.specs.Lent.{positionTable, pieceTable}
+use Rattle.ledger.specs.Settling.{paymentBy, paymentsBy, feeOf, Owed, Settleable}
+use Rattle.kept.specs.View.{view, Valid}
+use Rattle.kept.specs.Discharging.{Terms, Dischargeable}
+use Rattle.kept.proofs.Discharging.{positions-many, accounted, lookup-there, missing-number, cash-split, cash-number, cash-terms, cash-dealing, cash-priceable, cash-room, settled}
+use Rattle.calls.specs.declared.Core.{Core}
+use Rattle.calls.specs.declared.Followed.{Followed}
+use Rattle.calls.specs.View.{Numbers, numbers, keptOf, bookOf, heldIn, Held, Taken, CashTerms, CalledOn, Discharging, Discharged}
+use Rattle.calls.specs.Cores.{dischargedCore}
+use Rattle.calls.proofs.Returns.{refused-on, taken-called}
+use Rattle.calls.proofs.Walking.{row-is, discharging}
+
+-- a discharge leaves members and references as they are
+module _ (xs : List Piece) where
+  member-kept : (n : ℕ) (ps : List Position) (i : ℕ) → getD (number (lowered xs) n ps) i noPosition .member ≡ getD ps i noPosition .member
+  unfolding lowered
+  member-kept n [] i = refl
+  member-kept n (p ∷ ps) zero = refl
+  member-kept n (p ∷ ps) (suc i) = member-kept (suc n) ps i
+
+  reference-kept : (n : ℕ) (ps : List Position) (i : ℕ) → getD (number (lowered xs) n ps) i noPosition .reference ≡ getD ps i noPosition .reference
+  unfolding lowered
+  reference-kept n [] i = refl
+  reference-kept n (p ∷ ps) zero = refl
+  reference-kept n (p ∷ ps) (suc i) = reference-kept (suc n) ps i
+
+  accounted-kept : (ps : List Position) → All Accounted ps → All Accounted (lowering xs ps)
+  unfolding lowering lowered
+  accounted-kept ps = all-number Accounted (lowered xs) Accounted 1 ps (λ k p s. record { member = s .member; security = s .security })
+
+  references-kept : (ps : List Position) → All (λ p. p .reference ≤ 10000000) ps → All (λ p. p .reference ≤ 10000000) (lowering xs ps)
+  unfolding lowering lowered
+  references-kept ps = all-number (λ p. p .reference ≤ 10000000) (lowered xs) (λ p. p .reference ≤ 10000000) 1 ps (λ k p s. s)
+
+take-mapped : {A B : Type 0} (f : A → B) (n : ℕ) (xs : List A) → take n (map f xs) ≡ map f (take n xs)
+take-mapped f zero xs = refl
+take-mapped f (suc n) [] = refl
+take-mapped f (suc n) (x ∷ xs) = ap (λ ys. f x ∷ ys) (take-mapped f n xs)
+
+each-mapped : {A B C : Type 0} (g : B → C) (f : A → B) (xs : List A) → each (λ x. g (f x) ∷ []) xs ≡ map g (map f xs)
+each-mapped g f [] = refl
+each-mapped g f (x ∷ xs) = ap (λ ys. g (f x) ∷ ys) (each-mapped g f xs)
+
+-- pricing and paying by positions that have the same members and references
+module _ (class latest : ℕ) (p q : Positions) (members : (k : ℕ) → nth noPosition (table.positions q) k .member ≡ nth noPosition (table.positions p) k .member)
+    (references : (k : ℕ) → nth noPosition (table.positions q) k .reference ≡ nth noPosition (table.positions p) k .reference) where
+  priced-one : (x : Piece) → pricedBy class latest (table.positions q) x ≡ pricedBy class latest (table.positions p) x
+  unfolding pricedBy
+  priced-one x = rw (references (x .short), references (x .long))
+
+  payment-one : (x : Piece) → paymentBy class latest q x ≡ paymentBy class latest p x
+  unfolding payment pricedBy
+  payment-one x = rw (members (x .short), members (x .long), references (x .short), references (x .long))
+
+  priced-same : (xs : List Piece) → map (pricedBy class latest (table.positions q)) xs ≡ map (pricedBy class latest (table.positions p)) xs
+  priced-same xs = λ i. map (λ x. priced-one x i) xs
+
+  payments-same : (xs x : Pieces) → Priced xs p class latest x → paymentsBy class latest q xs ≡ paymentsOf x p
+  unfolding paymentsBy paymentsOf
+  payments-same xs x g =
+      (λ i. each (λ y. payment-one y i) (table.pieces xs))
+      ∙ each-mapped (payment (parts.bookOf emptyRegister 0 [] (table.positions p))) (pricedBy class latest (table.positions p)) (table.pieces xs)
+      ∙ ap (map (payment (parts.bookOf emptyRegister 0 [] (table.positions p)))) (sym (g .priced))
+
+-- the refusals
+module _ (b : Core) (a : Numbers) (h : Held b a) (c : Cash) where
+  pub cash-missing : (number : ℕ) (sheet : List ℕ) → number ≡ lookupRefusal 1024 (b .positions) (c .position) → number ≢ 0 → length sheet ≡ 4096
+      → CalledOn b a (call (event.Cash c) 1024) manner.Cash sheet b a sheet (outcome.Refused number) 0
+  cash-missing number sheet e some long =
+      refused-on b a (call (event.Cash c) 1024) manner.Cash sheet number h (missing-number 1024 _ _ _ _ (cash-split (keptOf b a) (h .valid) c 1024) number e some) some long
+
+  module _ (p : Position) (class latest : ℕ) (today : Step) (number : ℕ) (there : lookupRefusal 1024 (b .positions) (c .position) ≡ 0) (terms : CashTerms b (a .rows) (c .position) p class latest)
+      (step : today ≡ stepOn class (b .day .0 - p .settlement .0)) (is : number ≡ cashRefusal p today latest) where
+    number-is : refusal (bookOf b a) (call (event.Cash c) 1024) ≡ number
+    number-is =
+        cash-number (keptOf b a) (h .valid) c 1024 p class latest today number there (terms .own ∙ row-is b a h (c .position) (lookup-there 1024 (b .positions) (c .position) there)) (terms .classed) (terms .priced) step is
+
+    pub cash-refused : (sheet : List ℕ) → number ≢ 0 → length sheet ≡ 4096 → CalledOn b a (call (event.Cash c) 1024) manner.Cash sheet b a sheet (outcome.Refused number) 0
+    cash-refused sheet some long = refused-on b a (call (event.Cash c) 1024) manner.Cash sheet number h number-is some long
+
+    pub cash-accepted : number ≡ 0 → Taken b a (call (event.Cash c) 1024)
+    cash-accepted z = record { held = h; accepted = number-is ∙ z }
+
+-- the settlement
+module _ (b : Core) (a : Numbers) (c : Cash) (t : Taken b a (call (event.Cash c) 1024)) (p : Position) (class latest : ℕ) (terms : CashTerms b (a .rows) (c .position) p class latest) where
+  abbrev v : Valid (keptOf b a)
+  v = t .held .valid
+
+  abbrev old : Positions
+  old = positionTable (a .rows) (b .positions)
+
+  able : Dischargeable (keptOf b a) (event.Cash c)
+  able = record { valid = v; taken = t .accepted }
+
+  inside : Within 1 (b .positions) (c .position)
+  unfolding view
+  inside =
+      let w = cash-taken (bookOf b a) c 1024 (t .accepted) .held in
+      record { above = w .above; below = omega (arith, w .below, positions-many old (v .fits .positions)) }
+
+  own : p ≡ nth noPosition (heldIn (a .rows) (b .positions)) (c .position)
+  own = terms .own ∙ row-is b a (t .held) (c .position) inside
+
+  by : Terms (bookOf b a) (c .position) (p .unsettled) class latest
+  by = cash-terms (keptOf b a) v c p class latest own (terms .classed) (terms .priced)
+
+  pub settling : (sheet : List ℕ) → length sheet ≡ 4096 → Discharging (b .day .0) (a .rows) (b .positions) (a .counts) sheet (b .followed) (c .position) p (p .unsettled) manner.Cash
+  settling sheet long =
+      discharging b a (t .held) (c .position) (p .unsettled) manner.Cash (cash-dealing (keptOf b a) v c able (p .unsettled) class latest by) p sheet
+      (λ e. cash-taken (bookOf b a) c 1024 (t .accepted) .unsettled (sym (by .unsettled) ∙ e)) (terms .own) long
+
+  module _ (zs cs mid : List ℕ) (f : Followed) (made : ℕ) (w : Discharged (b .day .0) (a .rows) (b .positions) (c .position) (p .unsettled) manner.Cash zs cs mid f made) where
+    abbrev left-table : Positions
+    left-table = positionTable zs (b .positions)
+
+    abbrev dealt-pieces : Pieces
+    dealt-pieces = pieceTable manner.Cash mid made
+
+    members : (k : ℕ) → nth noPosition (table.positions left-table) k .member ≡ nth noPosition (table.positions old) k .member
+    unfolding lowering
+    members k = rw (w .dealt .positions) (member-kept (dealtOut old (b .day .0) (c .position) (p .unsettled) manner.Cash) 1 (table.positions old) (k - 1))
+
+    references : (k : ℕ) → nth noPosition (table.positions left-table) k .reference ≡ nth noPosition (table.positions old) k .reference
+    unfolding lowering
+    references k = rw (w .dealt .positions) (reference-kept (dealtOut old (b .day .0) (c .position) (p .unsettled) manner.Cash) 1 (table.positions old) (k - 1))
+
+    charges-are : (x : Pieces) → Priced dealt-pieces old class latest x → paymentsBy class latest left-table dealt-pieces ++ feeOf p latest ∷ [] ≡ cashChargesBy x old (c .position) latest
+    unfolding cashChargesBy
+    charges-are x g =
+        ap (λ (cs : List Charge). cs ++ feeOf p latest ∷ []) (payments-same class latest old left-table members references dealt-pieces x g)
+        ∙ ap (λ (q : Position). paymentsOf x old ++ feeOf q latest ∷ []) own
+
+    -- the pieces as they will be, before they are priced
+    ahead : Priced dealt-pieces old class latest (record { items = map (pricedBy class latest (table.positions old)) (piecesOf manner.Cash mid); count = made })
+    unfolding table.pieces
+    ahead =
+        let f = w .dealt .pieces-fit in
+        record {
+          many = refl;
+          priced = take-mapped (pricedBy class latest (table.positions old)) made (piecesOf manner.Cash mid);
+          fit = record { places = length-map (piecesOf manner.Cash mid) (pricedBy class latest (table.positions old)) ∙ f .places; held = f .held };
+        }
+
+    shorts : All (λ x. x .short ≡ c .position) (table.pieces dealt-pieces)
+    unfolding view dealt
+    shorts =
+        rw (w .dealt .pieces, by .unsettled) (deals (bookOf b a) manner.Cash (c .position) _ (v .sound .settled .even) (cash-dealable (bookOf b a) c (cash-taken (bookOf b a) c 1024 (t .accepted))) .shorts)
+
+    owed-of : (x : Piece) → x .short ≡ c .position → Owed left-table p x
+    owed-of x e =
+        record {
+          member = ap (λ (k : ℕ). nth noPosition (table.positions left-table) k .member) e ∙ members (c .position) ∙ ap (λ (q : Position). q .member) (sym own);
+          reference = ap (λ (k : ℕ). nth noPosition (table.positions left-table) k .reference) e ∙ references (c .position) ∙ ap (λ (q : Position). q .reference) (sym own);
+        }
+
+    pub settleable : Settleable (b .ledger) (paymentsBy class latest left-table dealt-pieces ++ feeOf p latest ∷ []) left-table dealt-pieces p latest
+    settleable =
+        let g = cash-priceable (keptOf b a) v c able (p .unsettled) class latest by _ (w .dealt) in
+        let all = accounted (keptOf b a) v in
+        record {
+          room = rw (charges-are _ ahead) (cash-room (keptOf b a) v c able (p .unsettled) class latest by _ (w .dealt) _ ahead);
+          priceable = record { price = g .price; positions-fit = w .dealt .positions-fit; references = rw (w .dealt .positions) (references-kept _ (table.positions old) (g .references)); pieces-fit = g .pieces-fit; paired = g .paired };
+          accounted = rw (w .dealt .positions) (accounted-kept _ (table.positions old) all);
+          owed = all-of (λ x. x .short ≡ c .position) (Owed left-table p) (table.pieces dealt-pieces) owed-of shorts;
+          payer = rw (terms .own) (position-numbered old (g .positions-fit) Accounted (c .position) inside all .member);
+          reference = rw (terms .own) (position-numbered old (g .positions-fit) (λ q. q .reference ≤ 10000000) (c .position) inside (g .references));
+        }
+
+    pub cash-done : (sheet left : List ℕ) (l : Ledger) → Priced dealt-pieces left-table class latest (pieceTable manner.Cash left made)
+        → l ≡ posted (b .ledger) (paymentsBy class latest left-table dealt-pieces ++ feeOf p latest ∷ []) → length left ≡ 4096
+        → CalledOn b a (call (event.Cash c) 1024) manner.Cash sheet (dischargedCore b f l) (numbers zs (a .trades) (a .awards) cs) left (outcome.Done (p .unsettled)) made
+    unfolding table.pieces
+    cash-done sheet left l priced posts long =
+        let g : Priced dealt-pieces old class latest (pieceTable manner.Cash left made) =
+        record { many = refl; priced = priced .priced ∙ priced-same class latest old left-table members references (table.pieces dealt-pieces); fit = priced .fit } in
+        let r = settled (keptOf b a) v c able (p .unsettled) class latest by _ (w .dealt) (pieceTable manner.Cash left made) g l (posts ∙ ap (posted (b .ledger)) (charges-are (pieceTable manner.Cash left made) g)) in
+        record {
+          called =
+              taken-called b a (call (event.Cash c) 1024) (dischargedCore b f l) (numbers zs (a .trades) (a .awards) cs) (p .unsettled) (take made (piecesOf manner.Cash left)) (t .held) (t .accepted) (r .quantity) (r .pieces) (r .book) (r .fits)
+              (record { rows = w .rows-length; trades = t .held .lent .trades; awards = t .held .lent .awards; follows = w .follows });
+          places = long;
+          few = w .dealt .pieces-fit .held;
+          kept = λ n. absurd (n (t .accepted));
+        }

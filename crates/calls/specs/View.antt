@@ -1,0 +1,146 @@
+-- What a core and the lent numbers stand for, what holds of them, and what a call in place returns.
+use Prim.Native.Nat.{ℕ, _≤_, _<_}
+use mathlib.Core.Path.{_≡_}
+use mathlib.Core.Logic.{_≢_}
+use mathlib.Core.List.{List, []}
+use lib.ListN.{length, take, replicate}
+use Rattle.plain.specs.declared.Piece.{Piece}
+use Rattle.plain.specs.declared.Position.{Position}
+use Rattle.plain.specs.declared.Manner.{Manner}
+use Rattle.plain.specs.declared.Outcome.{Outcome}
+use Rattle.plain.specs.Book as plain
+use Rattle.plain.specs.Calls.{Call}
+use Rattle.plain.specs.Refusals.{refusal}
+use Rattle.plain.specs.Histories.{next, pieces, quantity}
+use Rattle.plain.proofs.Accepted.{Within}
+use Rattle.plain.proofs.Invariants.{Deals}
+use Rattle.rows.specs.Rows.{rowsOf}
+use Rattle.pieces.specs.Sheet.{piecesOf}
+use Rattle.tables.specs.Tables as table
+use Rattle.tables.specs.Lent.{positionTable, tradeTable, awardTable, pieceTable, rowOf}
+use Rattle.failing.specs.Counts.{Counted, LateBefore}
+use Rattle.positions.specs.Dealing.{Dealing, dealtOut, DealtOut, ClosedBefore}
+use Rattle.kept.specs.View.{Kept, Valid, view, answer}
+use Rattle.calls.specs.declared.Core.{Core}
+use Rattle.calls.specs.declared.Followed.{Followed}
+
+-- the numbers of the lent tables: positions, trades, awards, and the counts of late open shorts
+pub record Numbers : Type 0 where
+  pub rows : List ℕ
+  pub trades : List ℕ
+  pub awards : List ℕ
+  pub counts : List ℕ
+
+abbrev pub numbers : List ℕ → List ℕ → List ℕ → List ℕ → Numbers
+numbers rows trades awards counts = record { rows = rows; trades = trades; awards = awards; counts = counts }
+
+-- the book as one record: its tables are made of the numbers
+abbrev pub keptOf : Core → Numbers → Kept
+keptOf b a =
+    record {
+      register = b .register;
+      day = b .day;
+      trades = tradeTable (a .trades) (b .trades) (b .netted);
+      prices = b .prices;
+      positions = positionTable (a .rows) (b .positions);
+      auction = b .auction;
+      awards = awardTable (a .awards) (b .awards);
+      marks = b .marks;
+      ledger = b .ledger;
+    }
+
+-- the plain book that a core and the numbers stand for
+abbrev pub bookOf : Core → Numbers → plain.Book
+bookOf b a = view (keptOf b a)
+
+-- the positions in use
+abbrev pub heldIn : List ℕ → ℕ → List Position
+heldIn rows count = table.positions (positionTable rows count)
+
+-- for each security a place before which no long of it is open
+pub record Started (count : ℕ) (starts : List ℕ) (items : List Position) : Type 0 where
+  pub places : length starts ≡ 32
+  pub within : (s : ℕ) → plain.nth 0 starts s ≤ count
+  pub closed : (s : ℕ) → 1 ≤ s → ClosedBefore s items (plain.nth 0 starts s)
+
+-- what is followed of the positions besides: where the walk of a discharge starts, who is failing, and up to where positions are late
+pub record Follows (day : ℕ) (rows : List ℕ) (count : ℕ) (counts : List ℕ) (f : Followed) : Type 0 where
+  pub started : Started count (f .starts) (rowsOf rows)
+  pub failing : Counted day (heldIn rows count) (f .failing .words) counts
+  pub late : LateBefore day (heldIn rows count) (f .late)
+
+-- the numbers have their places, and what the core follows is true of them
+pub record Lent (b : Core) (a : Numbers) : Type 0 where
+  pub rows : length (a .rows) ≡ 10240
+  pub trades : length (a .trades) ≡ 2560
+  pub awards : length (a .awards) ≡ 1280
+  pub follows : Follows (b .day .0) (a .rows) (b .positions) (a .counts) (b .followed)
+
+-- what holds of every core with its numbers that opening or a call leaves. A core's fields are private, so that no other code makes one; numbers that
+-- other code has changed do not meet this, and no call takes them.
+pub record Held (b : Core) (a : Numbers) : Type 0 where
+  pub valid : Valid (keptOf b a)
+  pub lent : Lent b a
+
+-- what the call c on the book b returns: the book after it, its outcome and its pieces
+pub record Returned (b : Kept) (c : Call) (after : Kept) (o : Outcome) (xs : List Piece) : Type 0 where
+  pub outcome : o ≡ answer (refusal (view b) c) (quantity (view b) c)
+  pub pieces : xs ≡ pieces (view b) c
+  pub book : view after ≡ next (view b) c
+  pub valid : Valid after
+  pub kept : refusal (view b) c ≢ 0 → after ≡ b
+
+-- the same of a call in place: a refused call leaves the core and every lent number as it was
+pub record Called (b : Core) (a : Numbers) (c : Call) (after : Core) (z : Numbers) (o : Outcome) (xs : List Piece) : Type 0 where
+  pub returned : Returned (keptOf b a) c (keptOf after z) o xs
+  pub lent : Lent after z
+  pub kept : refusal (bookOf b a) c ≢ 0 → (after ≡ b) × (z ≡ a)
+
+-- a call that has no sheet reports no piece
+pub record CalledBare (b : Core) (a : Numbers) (c : Call) (after : Core) (z : Numbers) (o : Outcome) (n : ℕ) : Type 0 where
+  pub called : Called b a c after z o []
+  pub none : n ≡ 0
+
+-- a call that hands out n pieces in a manner on a lent sheet, of numbers too: a refused call leaves the sheet as it was
+pub record CalledOn (b : Core) (a : Numbers) (c : Call) (m : Manner) (sheet : List ℕ) (after : Core) (z : Numbers) (left : List ℕ) (o : Outcome) (n : ℕ) : Type 0 where
+  pub called : Called b a c after z o (take n (piecesOf m left))
+  pub places : length left ≡ 4096
+  pub few : n ≤ 1024
+  pub kept : refusal (bookOf b a) c ≢ 0 → left ≡ sheet
+
+-- what dealing out q units of the short p, of number n, asks of the lent tables, the sheet and what is followed
+pub record Discharging (day : ℕ) (rows : List ℕ) (count : ℕ) (counts sheet : List ℕ) (f : Followed) (n : ℕ) (p : Position) (q : ℕ) (m : Manner) : Type 0 where
+  pub dealing : Dealing (positionTable rows count) day n q
+  pub deals : ((b : plain.Book) × (b .positions ≡ heldIn rows count) × Deals b m n q (dealtOut (positionTable rows count) day n q m))
+  pub own : p ≡ rowOf rows n
+  pub security : Within 1 32 (p .security)
+  pub member : p .member ≤ 63
+  pub some : 0 < q
+  pub follows : Follows day rows count counts f
+  pub rows-length : length rows ≡ 10240
+  pub sheet-length : length sheet ≡ 4096
+
+-- and what it leaves of them, with so many pieces
+pub record Discharged (day : ℕ) (rows : List ℕ) (count n q : ℕ) (m : Manner) (after counts sheet : List ℕ) (f : Followed) (made : ℕ) : Type 0 where
+  pub dealt : DealtOut (positionTable rows count) day n q m (record { positions = positionTable after count; pieces = pieceTable m sheet made })
+  pub follows : Follows day after count counts f
+  pub rows-length : length after ≡ 10240
+  pub sheet-length : length sheet ≡ 4096
+
+-- a call that nothing turns down
+pub record Taken (b : Core) (a : Numbers) (c : Call) : Type 0 where
+  pub held : Held b a
+  pub accepted : refusal (bookOf b a) c ≡ 0
+
+-- what a cash settlement of position n goes by: the position, and the class and the latest price of its security
+pub record CashTerms (b : Core) (rows : List ℕ) (n : ℕ) (p : Position) (class latest : ℕ) : Type 0 where
+  pub own : p ≡ rowOf rows n
+  pub classed : class ≡ plain.nth 0 (b .register .classes) (p .security)
+  pub priced : latest ≡ plain.nth 0 (b .prices .latest) (p .security)
+
+-- the numbers that are lent with a new book: no short is late, and the tables have their places
+pub record Blank (a : Numbers) : Type 0 where
+  pub rows : length (a .rows) ≡ 10240
+  pub trades : length (a .trades) ≡ 2560
+  pub awards : length (a .awards) ≡ 1280
+  pub counts : a .counts ≡ replicate 2048 0

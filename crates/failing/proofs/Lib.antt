@@ -1,0 +1,7 @@
+pub mod Bits
+pub mod Turning
+pub mod Counting
+pub mod Shorts
+pub mod Keeping
+pub mod Discharging
+pub mod Raising

@@ -1,0 +1,161 @@
+// The failing members of each security, kept as a word of 64 bits, and how many late open shorts each of them holds.
+// Document 01, 'Auction'.
+ghost use mathlib.Core.Path.{_≡_};
+ghost use mathlib.Core.Bool.{_&&_};
+ghost use mathlib.Core.List.{List};
+ghost use Prim.Native.Nat.{ℕ, _+_, _≤_, _<_};
+ghost use lib.Dec.{ltb};
+ghost use lib.ListN.{length, getD};
+ghost use Rattle.plain.specs.declared.Position as plain;
+ghost use Rattle.plain.specs.Book.{nth};
+ghost use Rattle.plain.proofs.Accepted.{Within};
+ghost use Rattle.plain.proofs.Invariants.{Rising};
+ghost use Rattle.tables.specs.Tables as tables;
+ghost use Rattle.tables.specs.Lent.{positionTable};
+ghost use Rattle.failing.specs.Members.{bit, Added};
+ghost use Rattle.failing.specs.Counts as spec;
+use laws::BusinessDay;
+use plain::Position;
+
+// For each security, one bit a member.
+pub struct Words {
+    pub words: [u64; 32],
+}
+
+// The words after a close, and the place in the table up to which positions are late.
+pub struct Raised {
+    pub words: Words,
+    pub late: usize,
+}
+
+pub fn is_failing(word: u64, member: u8) -> bool
+    ensures { λ r. ⌜ r ≡ bit word member ⌝ }
+{
+    // the word has no bit for a member above 63, and no shift goes so far
+    if 63 < member {
+        return false;
+    }
+    (word >> member) % 2 == 1
+}
+
+// The word of a security.
+pub fn word_of(words: Words, security: u16) -> u64
+    requires { ⌜ (length (words .words) ≡ 32) × (Within 1 32 security) ⌝ }
+    ensures { λ r. ⌜ r ≡ nth 0 (words .words) security ⌝ }
+{
+    let k = (security - 1) as usize;
+    words.words[k]
+}
+
+fn count_place(security: u16, member: u8) -> usize
+    requires { ⌜ (Within 1 32 security) × (member ≤ 63) ⌝ }
+    ensures { λ r. ⌜ r ≡ spec.countPlace security member ⌝ }
+{
+    64 * ((security - 1) as usize) + (member as usize)
+}
+
+fn with_member(word: u64, member: u8) -> u64
+    requires { ⌜ member ≤ 63 ⌝ }
+    ensures { λ r. ⌜ Added word member r ⌝ }
+{
+    word | (1u64 << member)
+}
+
+fn without_member(word: u64, member: u8) -> u64
+    requires { ⌜ member ≤ 63 ⌝ }
+    ensures { λ r. ⌜ spec.Turned word member r ⌝ }
+{
+    word ^ (1u64 << member)
+}
+
+// The member holds one late open short in the security more.
+fn with_late_short(words: Words, counts: &mut [u32; 2048], security: u16, member: u8) -> Words
+    requires { ⌜ (spec.HasCount (words .words) (now counts) security member) × (getD (now counts) (spec.countPlace security member) 0 ≤ 1024) ⌝ }
+    ensures { λ r. ⌜ ((day next : ℕ) (ps qs : List plain.Position) → spec.Counted day ps (words .words) (now (counts .entry)) → spec.OneMore day ps next qs security member → spec.Counted next qs (r .words) (now (counts .exit))) ⌝ }
+{
+    let place = count_place(security, member);
+    counts[place] = counts[place] + 1;
+    let k = (security - 1) as usize;
+    let before = words.words[k];
+    let word = with_member(before, member);
+    let mut after = words;
+    after.words[k] = word;
+    after
+}
+
+// The member holds one late open short in the security less, and with the last of them ceases to be failing in it.
+fn without_late_short(words: Words, counts: &mut [u32; 2048], security: u16, member: u8) -> Words
+    requires { ⌜ (spec.HasCount (words .words) (now counts) security member) × (0 < getD (now counts) (spec.countPlace security member) 0) ⌝ }
+    ensures { λ r. ⌜ ((day : ℕ) (ps qs : List plain.Position) → spec.Counted day ps (words .words) (now (counts .entry)) → spec.OneMore day qs day ps security member → spec.Counted day qs (r .words) (now (counts .exit))) × (length (now (counts .exit)) ≡ 2048) ⌝ }
+{
+    let place = count_place(security, member);
+    let left = counts[place] - 1;
+    counts[place] = left;
+    if 0 < left {
+        return words;
+    }
+    let k = (security - 1) as usize;
+    let before = words.words[k];
+    let word = without_member(before, member);
+    let mut after = words;
+    after.words[k] = word;
+    after
+}
+
+// What a discharge of the short `p`, given as it was before, makes of the words.
+pub fn discharged(
+    words: Words,
+    counts: &mut [u32; 2048],
+    p: Position,
+    quantity: u32,
+    day: BusinessDay,
+) -> Words
+    requires { ⌜ ((ps : List plain.Position) × (n : ℕ) × (spec.Counted (day .0) ps (words .words) (now counts)) × (spec.UnitsOf ps n p quantity)) × (Within 1 32 (p .security)) × (p .member ≤ 63) ⌝ }
+    ensures { λ r. ⌜ ((ps qs : List plain.Position) (n : ℕ) → spec.Counted (day .0) ps (words .words) (now (counts .entry)) → spec.UnitsOf ps n p quantity → spec.Lowered (day .0) ps qs n quantity → spec.Counted (day .0) qs (r .words) (now (counts .exit))) × (length (now (counts .exit)) ≡ 2048) ⌝ }
+{
+    if quantity < p.unsettled {
+        return words;
+    }
+    if day.0 <= p.settlement.0 {
+        return words;
+    }
+    without_late_short(words, counts, p.security, p.member)
+}
+
+fn is_open_short(p: Position) -> bool
+    ensures { λ r. ⌜ r ≡ p .short && ltb 0 (p .unsettled) ⌝ }
+{
+    if !p.short {
+        return false;
+    }
+    0 < p.unsettled
+}
+
+// At the close of a day, the open shorts that are due on it become late. The table is in order of rising delivery days, so
+// they are those from the first that was not late on.
+pub fn raise_late(
+    words: Words,
+    counts: &mut [u32; 2048],
+    rows: &[u32; 10240],
+    held: usize,
+    from: usize,
+    day: BusinessDay,
+) -> Raised
+    requires { ⌜ (spec.Numbered (positionTable (now rows) held)) × (Rising (tables.positions (positionTable (now rows) held))) × (spec.Counted (day .0) (tables.positions (positionTable (now rows) held)) (words .words) (now counts)) × (spec.LateBefore (day .0) (tables.positions (positionTable (now rows) held)) from) ⌝ }
+    ensures { λ r. ⌜ (spec.Counted (day .0 + 1) (tables.positions (positionTable (now (rows .entry)) held)) (r .words .words) (now (counts .exit))) × (spec.LateBefore (day .0 + 1) (tables.positions (positionTable (now (rows .entry)) held)) (r .late)) ⌝ }
+{
+    let mut raised = words;
+    let mut i = from;
+    while i < held && rows::settlement_at(rows, i) <= day.0 {
+        let p = rows::row_at(rows, i);
+        if is_open_short(p) {
+            let next = with_late_short(raised, counts, p.security, p.member);
+            raised = next;
+        }
+        i += 1;
+    }
+    Raised {
+        words: raised,
+        late: i,
+    }
+}

@@ -1,0 +1,379 @@
+-- The discharges on the machine's book: their refusals are the plain book's, what they call asks only what holds of a valid book, and what they change stands for
+-- what the plain book changes.
+use Prim.Native.Nat.{ℕ, _+_, _-_, _≤_}
+use native.Mathlib.Omega.{arith}
+use mathlib.Core.Path.{_≡_, refl, ap, sym, _∙_, subst}
+use mathlib.Core.Logic.{_≢_}
+use mathlib.Core.List.{List, [], _∷_, _++_, map}
+use lib.ListN.{length, take}
+use lib.Seq.{length-take-le}
+use borrow.Author.Tests.{not-false}
+use Rattle.laws.specs.Lists.{All, number}
+use Rattle.laws.specs.Alls.{all-of, all-at, all-anywhere}
+use Rattle.laws.specs.Sums.{sum-map}
+use Rattle.laws.specs.Asked.{within-low, within-high}
+use Rattle.laws.specs.Refusals.{Reason, first, none-applies, first-past, first-there}
+use Rattle.events.specs.declared.Delivery.{Delivery}
+use Rattle.events.specs.declared.Confirm.{Confirm}
+use Rattle.events.specs.declared.Cash.{Cash}
+use Rattle.events.specs.declared.Event.{Event}
+use Rattle.events.specs.declared.Event.the-variants as event
+use Rattle.plain.specs.declared.Position.{Position}
+use Rattle.plain.specs.declared.Award.{Award}
+use Rattle.plain.specs.declared.Piece.{Piece}
+use Rattle.plain.specs.declared.Ledger.{Ledger}
+use Rattle.plain.specs.declared.Manner.{Manner}
+use Rattle.plain.specs.declared.Manner.the-variants as manner
+use Rattle.plain.specs.Book as plain
+use Rattle.plain.specs.Dealing.{names, taken, takenBy, lowered, lowering}
+use Rattle.plain.specs.Auction.{unconfirmed}
+use Rattle.plain.specs.Calls.{call, withAwards, dealt, discharged, handsOut, charges, amount, done}
+use Rattle.rules.specs.Charges.{buyInCharge}
+use Rattle.rules.specs.Windows.{stepOn}
+use Rattle.rules.specs.declared.Step.{Step}
+use Rattle.plain.specs.Charging.{Charge, charge, buyInCharges, priced, cashCharges, posted, credited, debited}
+use Rattle.plain.specs.Refusals.{stepToday, refusal}
+use Rattle.plain.proofs.Accepted.{Within, delivery-taken, confirm-taken, cash-taken}
+use Rattle.plain.proofs.Invariants.{Fair, Dealable, Deals, AwardFits}
+use Rattle.plain.proofs.AwardSteps.{delivery-dealable, confirm-dealable, cash-dealable}
+use Rattle.plain.proofs.Dealt.{deals, longs-suffice}
+use Rattle.plain.proofs.Sound.{done-sound, sound-dealt}
+use Rattle.plain.proofs.Accounts.{Places, Booked, booked, posted-places}
+use Rattle.plain.proofs.Bound.{done-bound}
+use Rattle.plain.proofs.Claim.{bounding, accountable}
+use Rattle.tables.specs.Tables.{Positions, Awards}
+use Rattle.tables.specs.declared.Pieces.{Pieces}
+use Rattle.tables.specs.Tables as table
+use Rattle.positions.specs.Dealing.{Dealing, DealtOut, Dealt}
+use Rattle.auction.specs.Awards.{Countable, Confirmable, Confirmed}
+use Rattle.ledger.specs.Posts.{Room}
+use Rattle.ledger.specs.Tabled.{Chargeable, Accounted, Paired, Priceable, Priced}
+use Rattle.ledger.specs.Parts.{cashChargesBy, priced-pieces, cash-charges}
+use Rattle.ledger.proofs.Reached.{call-room, all-accounted, all-references, all-paired}
+use Rattle.kept.specs.View.{Kept, view, Fits, Valid}
+use Rattle.refusals.specs.Discharging.{lookupReasons, lookupRefusal, deliveryReasons, deliveryRefusal, delivery-refusal-is, confirmReasons, confirmRefusal, confirm-refusal-is, cashReasons, cashRefusal, cash-refusal-is}
+use Rattle.kept.specs.Discharging.{Terms, Dischargeable, Done}
+
+-- Places in use
+
+module _ {A : Type 0} (items : List A) (count : ℕ) (fits : count ≤ length items) where
+  pub in-use : length (take count items) ≡ count
+  in-use = length-take-le count items fits
+
+pub positions-many : (t : Positions) → table.PositionsFit t → length (table.positions t) ≡ t .count
+unfolding Rattle.tables.specs.Tables.positions
+positions-many t f = in-use (t .items) (t .count) (omega (arith, f .places, f .held))
+
+pub awards-many : (t : Awards) → table.AwardsFit t → length (table.awards t) ≡ t .count
+unfolding Rattle.tables.specs.Tables.awards
+awards-many t f = in-use (t .items) (t .count) (omega (arith, f .places, f .held))
+
+-- The refusals
+
+pub lookup-there : (sheet held n : ℕ) → lookupRefusal sheet held n ≡ 0 → Within 1 held n
+unfolding lookupRefusal lookupReasons
+lookup-there sheet held n e =
+    let h = not-false _ (none-applies (lookupReasons sheet held n) refl e .1 .0) in
+    record { above = within-low 1 held n h; below = within-high 1 held n h }
+
+-- the refusals before and after the position or award is looked at, in the plain book's order
+module _ (sheet held n whole : ℕ) (rest : List Reason) (is : whole ≡ first (lookupReasons sheet held n ++ rest)) where
+  pub missing-number : (number : ℕ) → number ≡ lookupRefusal sheet held n → number ≢ 0 → whole ≡ number
+  unfolding lookupRefusal
+  missing-number number e some = is ∙ first-there (lookupReasons sheet held n) rest (λ z. some (e ∙ z)) ∙ sym e
+
+  pub found-number : lookupRefusal sheet held n ≡ 0 → whole ≡ first rest
+  unfolding lookupRefusal lookupReasons
+  found-number e = is ∙ first-past (lookupReasons sheet held n) rest refl e
+
+-- What the callees ask
+
+module _ (b : Kept) (v : Valid b) where
+  pub dealing : (n q : ℕ) → Dealable (view b) n q → Dealing (b .positions) (b .day .0) n q
+  unfolding view
+  dealing n q f =
+      record {
+        fits = v .fits .positions;
+        rising = v .sound .standing .rising;
+        held = record { above = f .held .above; below = omega (arith, f .held .below, positions-many (b .positions) (v .fits .positions)) };
+        is-short = f .short;
+        is-due = f .is-due;
+        enough = f .enough;
+        suffice = longs-suffice (view b) n q (v .sound .settled .even) f;
+        whole = v .sound .settled .whole;
+        bounded = all-of (Fair (b .register .count) (b .day .0)) (λ p. p .netted ≤ 512000000) (table.positions (b .positions)) (λ p h. h .netted .below) (v .sound .standing .fair);
+      }
+
+  -- each position has an account, and a security that is registered
+  pub accounted : All Accounted (table.positions (b .positions))
+  unfolding view
+  accounted =
+      all-accounted (b .register .count) (b .day .0) (table.positions (b .positions)) (v .sound .standing .fair) (v .fits .register .high)
+
+  pub countable : Countable (b .awards)
+  unfolding view
+  countable =
+      record { fit = v .fits .awards; small = all-of AwardFits (λ a. a .quantity ≤ 1000000) (table.awards (b .awards)) (λ a h. h .quantity .below) (v .sound .auctioned .awards-fit) }
+
+  -- the charges of a discharge are booked, and there is room for them
+  pub charges-room : (e : Event) → Dischargeable b e → Room (b .ledger) (charges (view b) e)
+  unfolding view
+  charges-room e k =
+      call-room (view b) e (accountable (view b) (v .sound)) (v .fits .places) (v .balanced)
+      (done-bound (view b) (call e 1024) (k .taken) (bounding (view b) (v .sound)) (sound-dealt (view b) (v .sound) (call e 1024) (k .taken)) (v .bound))
+      (omega (arith, done-sound (view b) (call e 1024) (k .taken) (v .sound) .standing .held))
+
+  pub charges-booked : (e : Event) → All Booked (charges (view b) e)
+  charges-booked e = booked (view b) (accountable (view b) (v .sound)) e
+
+-- What a discharge changes
+
+-- the book with other positions, awards and accounts
+abbrev pub after : Kept → Positions → Awards → Ledger → Kept
+after b ps today l =
+    record { register = b .register; day = b .day; trades = b .trades; prices = b .prices; positions = ps; auction = b .auction; awards = today; marks = b .marks; ledger = l }
+
+module _ (b : Kept) (ps : Positions) (today : Awards) (l : Ledger) where
+  after-view : (xs : List Piece) (marked : List Award) (cs : List Charge)
+      → table.positions ps ≡ lowering xs (table.positions (b .positions)) → table.awards today ≡ marked → l ≡ posted (b .ledger) cs
+      → view (after b ps today l) ≡ withAwards (discharged (view b) xs cs) marked
+  unfolding view discharged
+  after-view xs marked cs lowers marks posts = λ i. record { register = b .register; day = b .day .0; past = b .trades .netted; trades = table.today (b .trades); prices = b .prices .latest; positions = lowers i; auction = table.auction (b .auction); awards = marks i; marks = table.marks (b .marks); ledger = posts i }
+
+  after-fits : Fits b → table.PositionsFit ps → table.AwardsFit today → Places l → Fits (after b ps today l)
+  after-fits f p a k =
+      record {
+        register = f .register;
+        trades = f .trades;
+        positions = p;
+        auction = f .auction;
+        awards = a;
+        marks = f .marks;
+        places = k;
+      }
+
+-- Delivery
+
+module _ (b : Kept) (v : Valid b) (d : Delivery) where
+  module _ (sheet : ℕ) where
+    pub delivery-split : refusal (view b) (call (event.Delivery d) sheet) ≡ first (lookupReasons sheet (b .positions .count) (d .position) ++ deliveryReasons (plain.positionOf (view b) (d .position)) (b .day .0) (b .auction .position) (unconfirmed (d .position) (table.awards (b .awards))) d)
+    unfolding view Rattle.tables.specs.Tables.auction
+    delivery-split =
+        delivery-refusal-is (view b) sheet d
+        ∙ ap (λ (k : ℕ). first (lookupReasons sheet k (d .position) ++ deliveryReasons (plain.positionOf (view b) (d .position)) (b .day .0) (b .auction .position) (unconfirmed (d .position) (table.awards (b .awards))) d)) (positions-many (b .positions) (v .fits .positions))
+
+    pub delivery-number : (p : Position) (reserved number : ℕ)
+        → lookupRefusal sheet (b .positions .count) (d .position) ≡ 0 → p ≡ plain.nth plain.noPosition (table.positions (b .positions)) (d .position)
+        → reserved ≡ unconfirmed (d .position) (table.awards (b .awards)) → number ≡ deliveryRefusal p (b .day .0) (b .auction .position) reserved d
+        → refusal (view b) (call (event.Delivery d) sheet) ≡ number
+    unfolding view deliveryRefusal
+    delivery-number p reserved number e same units is = found-number sheet _ _ _ _ delivery-split e ∙ sym (rw (same, units) at is)
+
+  pub delivery-dealing : Dischargeable b (event.Delivery d) → Dealing (b .positions) (b .day .0) (d .position) (d .quantity)
+  delivery-dealing k = dealing b v (d .position) (d .quantity) (delivery-dealable (view b) d (delivery-taken (view b) d 1024 (k .taken)))
+
+  pub delivered : (r : Dealt) → DealtOut (b .positions) (b .day .0) (d .position) (d .quantity) manner.Delivered r → Done b (event.Delivery d) (after b (r .positions) (b .awards) (b .ledger)) (d .quantity) (r .pieces)
+  unfolding view done discharged handsOut charges amount dealt posted credited debited
+  delivered r f =
+      record {
+        book = after-view b (r .positions) (b .awards) (b .ledger) (handsOut (view b) (event.Delivery d)) (table.awards (b .awards)) [] (f .positions) refl refl;
+        fits = after-fits b (r .positions) (b .awards) (b .ledger) (v .fits) (f .positions-fit) (v .fits .awards) (v .fits .places);
+        quantity = refl;
+        pieces = f .pieces;
+        pieces-fit = f .pieces-fit;
+      }
+
+-- Confirmation
+
+module _ (b : Kept) (v : Valid b) (c : Confirm) where
+  module _ (sheet : ℕ) where
+    pub confirm-split : refusal (view b) (call (event.Confirm c) sheet) ≡ first (lookupReasons sheet (b .awards .count) (c .award) ++ confirmReasons (plain.awardOf (view b) (c .award)))
+    unfolding view
+    confirm-split =
+        confirm-refusal-is (view b) sheet c
+        ∙ ap (λ (k : ℕ). first (lookupReasons sheet k (c .award) ++ confirmReasons (plain.awardOf (view b) (c .award)))) (awards-many (b .awards) (v .fits .awards))
+
+    pub confirm-number : (a : Award) (number : ℕ) → lookupRefusal sheet (b .awards .count) (c .award) ≡ 0 → a ≡ plain.nth plain.noAward (table.awards (b .awards)) (c .award) → number ≡ confirmRefusal a → refusal (view b) (call (event.Confirm c) sheet) ≡ number
+    unfolding view confirmRefusal
+    confirm-number a number e same is = found-number sheet _ _ _ _ confirm-split e ∙ sym (rw same at is)
+
+  -- the award that is confirmed, and its short
+  abbrev award : Award
+  award = plain.awardOf (view b) (c .award)
+
+  abbrev shortFor : Award → Position
+  shortFor a = plain.nth plain.noPosition (table.positions (b .positions)) (a .position)
+
+  abbrev chargeFor : Award → Position → Charge
+  chargeFor a p = charge (p .member) (buyInCharge (a .quantity) (a .price) (p .reference))
+
+  module _ (k : Dischargeable b (event.Confirm c)) where
+    buy-in-dealable : Dealable (view b) (award .position) (award .quantity)
+    buy-in-dealable = confirm-dealable (view b) c (confirm-taken (view b) c 1024 (k .taken)) (v .sound .auctioned)
+
+    pub buy-in-there : (a : Award) → a ≡ award → Within 1 (b .positions .count) (a .position)
+    unfolding view
+    buy-in-there a same =
+        rw same (record { above = buy-in-dealable .held .above; below = omega (arith, buy-in-dealable .held .below, positions-many (b .positions) (v .fits .positions)) })
+
+    pub buy-in-dealing : (a : Award) → a ≡ award → Dealing (b .positions) (b .day .0) (a .position) (a .quantity)
+    buy-in-dealing a same = rw same (dealing b v (award .position) (award .quantity) buy-in-dealable)
+
+    own-charge : Chargeable (b .ledger) (chargeFor award (shortFor award))
+    unfolding view charges buyInCharges
+    own-charge = record { booked = charges-booked b v (event.Confirm c) .0; room = charges-room b v (event.Confirm c) k }
+
+    pub buy-in-charge : (a : Award) (p : Position) → a ≡ award → p ≡ shortFor a → Chargeable (b .ledger) (chargeFor a p)
+    buy-in-charge a p same short = rw (short, same) own-charge
+
+    pub buy-in-confirmable : Confirmable (b .awards) (c .award)
+    unfolding view
+    buy-in-confirmable =
+        let t = confirm-taken (view b) c 1024 (k .taken) in
+        record { fit = v .fits .awards; low = t .held .above; high = omega (arith, t .held .below, awards-many (b .awards) (v .fits .awards)) }
+
+  abbrev BoughtIn : Award → Type 0
+  BoughtIn a =
+      (r : Dealt) (l : Ledger) (w : Awards) → DealtOut (b .positions) (b .day .0) (a .position) (a .quantity) manner.BoughtIn r → l ≡ posted (b .ledger) (chargeFor a (shortFor a) ∷ []) → Confirmed (b .awards) (c .award) w
+      → Done b (event.Confirm c) (after b (r .positions) w l) (a .quantity) (r .pieces)
+
+  own-bought : BoughtIn award
+  unfolding view done handsOut charges buyInCharges amount dealt
+  own-bought r l w f posts g =
+      record {
+        book = after-view b (r .positions) w l (handsOut (view b) (event.Confirm c)) _ (charges (view b) (event.Confirm c)) (f .positions) (g .marked) posts;
+        fits = after-fits b (r .positions) w l (v .fits) (f .positions-fit) (g .fit) (rw posts (posted-places (b .ledger) _ (v .fits .places)));
+        quantity = refl;
+        pieces = f .pieces;
+        pieces-fit = f .pieces-fit;
+      }
+
+  pub bought-in : (a : Award) (p : Position) (r : Dealt) (l : Ledger) (w : Awards)
+      → a ≡ award → p ≡ shortFor a → DealtOut (b .positions) (b .day .0) (a .position) (a .quantity) manner.BoughtIn r
+      → l ≡ posted (b .ledger) (chargeFor a p ∷ []) → Confirmed (b .awards) (c .award) w
+      → Done b (event.Confirm c) (after b (r .positions) w l) (a .quantity) (r .pieces)
+  bought-in a p r l w same short f posts g =
+      subst BoughtIn (sym same) own-bought r l w f (posts ∙ ap (λ (q : Position). posted (b .ledger) (chargeFor a q ∷ [])) short) g
+
+-- Cash settlement
+
+-- pricing changes nothing that positions are lowered by
+module _ (b : plain.Book) (xs : List Piece) where
+  taken-priced : (n : ℕ) → taken n (map (priced b) xs) ≡ taken n xs
+  unfolding taken names priced
+  taken-priced n = sum-map (names n) (priced b) xs
+
+  by-priced : (m : Manner) (n : ℕ) → takenBy m n (map (priced b) xs) ≡ takenBy m n xs
+  unfolding takenBy names priced
+  by-priced m n = sum-map _ (priced b) xs
+
+  lowered-priced : (n : ℕ) (p : Position) → lowered (map (priced b) xs) n p ≡ lowered xs n p
+  unfolding lowered
+  lowered-priced n p = rw (taken-priced n, by-priced manner.Delivered n, by-priced manner.BoughtIn n, by-priced manner.Cash n)
+
+  lowering-priced : (ps : List Position) → lowering (map (priced b) xs) ps ≡ lowering xs ps
+  unfolding lowering
+  lowering-priced ps = λ i. number (λ n p. lowered-priced n p i) 1 ps
+
+module _ (b : Kept) (v : Valid b) (c : Cash) where
+  abbrev settledShort : Position
+  settledShort = plain.positionOf (view b) (c .position)
+
+  module _ (sheet : ℕ) where
+    pub cash-split : refusal (view b) (call (event.Cash c) sheet) ≡ first (lookupReasons sheet (b .positions .count) (c .position) ++ cashReasons settledShort (stepOn (plain.classOf (view b) (settledShort .security)) (b .day .0 - settledShort .settlement .0)) (plain.latestOf (view b) (settledShort .security)))
+    unfolding view stepToday
+    cash-split =
+        cash-refusal-is (view b) sheet c
+        ∙ ap (λ (k : ℕ). first (lookupReasons sheet k (c .position) ++ cashReasons settledShort (stepOn (plain.classOf (view b) (settledShort .security)) (b .day .0 - settledShort .settlement .0)) (plain.latestOf (view b) (settledShort .security)))) (positions-many (b .positions) (v .fits .positions))
+
+    pub cash-number : (p : Position) (class latest : ℕ) (today : Step) (number : ℕ)
+        → lookupRefusal sheet (b .positions .count) (c .position) ≡ 0 → p ≡ plain.nth plain.noPosition (table.positions (b .positions)) (c .position)
+        → class ≡ plain.nth 0 (b .register .classes) (p .security) → latest ≡ plain.nth 0 (b .prices .latest) (p .security)
+        → today ≡ stepOn class (b .day .0 - p .settlement .0) → number ≡ cashRefusal p today latest
+        → refusal (view b) (call (event.Cash c) sheet) ≡ number
+    unfolding view cashRefusal
+    cash-number p class latest today number e same classed price step is =
+        found-number sheet _ _ _ _ cash-split e ∙ sym (rw (step, price, classed, same) at is)
+
+  pub cash-security : (p : Position) → Within 1 (b .positions .count) (c .position) → p ≡ plain.nth plain.noPosition (table.positions (b .positions)) (c .position) → Within 1 32 (p .security)
+  unfolding view
+  cash-security p h same =
+      let f = all-at (Fair (b .register .count) (b .day .0)) (table.positions (b .positions)) (c .position - 1) plain.noPosition (omega (arith, h .above, h .below, positions-many (b .positions) (v .fits .positions))) (v .sound .standing .fair) in
+      rw same (record { above = f .security .above; below = omega (arith, f .security .below, v .fits .register .high) })
+
+  pub cash-terms : (p : Position) (class latest : ℕ)
+      → p ≡ plain.nth plain.noPosition (table.positions (b .positions)) (c .position) → class ≡ plain.nth 0 (b .register .classes) (p .security)
+      → latest ≡ plain.nth 0 (b .prices .latest) (p .security) → Terms (view b) (c .position) (p .unsettled) class latest
+  unfolding view
+  cash-terms p class latest same classed price =
+      record {
+        unsettled = ap (λ (q : Position). q .unsettled) same;
+        classed = classed ∙ ap (λ (q : Position). plain.nth 0 (b .register .classes) (q .security)) same;
+        latest = price ∙ ap (λ (q : Position). plain.nth 0 (b .prices .latest) (q .security)) same;
+      }
+
+  module _ (k : Dischargeable b (event.Cash c)) (units class latest : ℕ) (t : Terms (view b) (c .position) units class latest) where
+    cash-able : Dealable (view b) (c .position) (settledShort .unsettled)
+    cash-able = cash-dealable (view b) c (cash-taken (view b) c 1024 (k .taken))
+
+    pub cash-dealing : Dealing (b .positions) (b .day .0) (c .position) units
+    cash-dealing = rw (t .unsettled) (dealing b v (c .position) (settledShort .unsettled) cash-able)
+
+    cash-deals : Deals (view b) manner.Cash (c .position) (settledShort .unsettled) (dealt (view b) manner.Cash (c .position) (settledShort .unsettled))
+    cash-deals = deals (view b) manner.Cash (c .position) (settledShort .unsettled) (v .sound .settled .even) cash-able
+
+    paired-of : (xs : List Piece) → Deals (view b) manner.Cash (c .position) (settledShort .unsettled) xs → All (Paired (b .positions .count)) xs
+    unfolding view
+    paired-of xs f =
+        subst (λ (held : ℕ). All (Paired held) xs) (positions-many (b .positions) (v .fits .positions)) (all-paired (view b) manner.Cash (c .position) (settledShort .unsettled) xs f)
+
+    module _ (r : Dealt) (f : DealtOut (b .positions) (b .day .0) (c .position) units manner.Cash r) where
+      unpriced-is : table.pieces (r .pieces) ≡ dealt (view b) manner.Cash (c .position) (settledShort .unsettled)
+      unfolding view dealt
+      unpriced-is = f .pieces ∙ ap (λ (u : ℕ). dealt (view b) manner.Cash (c .position) u) (t .unsettled)
+
+      pub cash-priceable : Priceable (r .pieces) (b .positions) latest
+      unfolding view
+      cash-priceable =
+          record {
+            price = rw (t .latest) (all-anywhere (λ p. p ≤ 10000000) (b .prices .latest) (settledShort .security - 1) 0 (omega arith) (v .sound .standing .prices .small));
+            positions-fit = v .fits .positions;
+            references = all-references (b .register .count) (b .day .0) (table.positions (b .positions)) (v .sound .standing .fair);
+            pieces-fit = f .pieces-fit;
+            paired = rw unpriced-is (paired-of (dealt (view b) manner.Cash (c .position) (settledShort .unsettled)) cash-deals);
+          }
+
+      module _ (x : Pieces) (g : Priced (r .pieces) (b .positions) class latest x) where
+        priced-is : table.pieces x ≡ handsOut (view b) (event.Cash c)
+        unfolding view handsOut
+        priced-is =
+            rw (t .classed, t .latest, unpriced-is) at (g .priced)
+            ∙ priced-pieces (view b) (c .position) (dealt (view b) manner.Cash (c .position) (settledShort .unsettled)) (cash-deals .shorts)
+
+        charges-is : cashChargesBy x (b .positions) (c .position) latest ≡ charges (view b) (event.Cash c)
+        unfolding view charges
+        charges-is =
+            ap (λ (l : ℕ). cashChargesBy x (b .positions) (c .position) l) (t .latest)
+            ∙ cash-charges (view b) x (b .positions) (c .position) refl
+            ∙ ap (λ (xs : List Piece). cashCharges (view b) (c .position) xs) priced-is
+
+        pub cash-room : Room (b .ledger) (cashChargesBy x (b .positions) (c .position) latest)
+        cash-room = rw charges-is (charges-room b v (event.Cash c) k)
+
+        cash-lowers : table.positions (r .positions) ≡ lowering (handsOut (view b) (event.Cash c)) (table.positions (b .positions))
+        unfolding view dealt handsOut
+        cash-lowers =
+            f .positions
+            ∙ ap (λ (u : ℕ). lowering (dealt (view b) manner.Cash (c .position) u) (table.positions (b .positions))) (t .unsettled)
+            ∙ sym (lowering-priced (view b) (dealt (view b) manner.Cash (c .position) (settledShort .unsettled)) (table.positions (b .positions)))
+
+        pub settled : (l : Ledger) → l ≡ posted (b .ledger) (cashChargesBy x (b .positions) (c .position) latest) → Done b (event.Cash c) (after b (r .positions) (b .awards) l) units x
+        unfolding view done discharged amount
+        settled l posts =
+            record {
+              book = after-view b (r .positions) (b .awards) l (handsOut (view b) (event.Cash c)) (table.awards (b .awards)) (charges (view b) (event.Cash c)) cash-lowers refl (posts ∙ ap (λ (cs : List Charge). posted (b .ledger) cs) charges-is);
+              fits = after-fits b (r .positions) (b .awards) l (v .fits) (f .positions-fit) (v .fits .awards) (rw posts (posted-places (b .ledger) _ (v .fits .places)));
+              quantity = t .unsettled;
+              pieces = priced-is;
+              pieces-fit = g .fit;
+            }

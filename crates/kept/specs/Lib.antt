@@ -1,0 +1,4 @@
+pub mod View
+pub mod Auctions
+pub mod Closing
+pub mod Discharging

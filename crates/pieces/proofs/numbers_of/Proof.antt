@@ -1,0 +1,78 @@
+-- `pieces::numbers_of` meets its contract. The invariant: the places passed say the pieces, in every manner.
+use borrow.Author.Needs.{needs}
+use native.Mathlib.Omega.{arith}
+use Prim.Native.Nat.{_-_, _≤_}
+use mathlib.Core.Path.{_≡_, refl}
+use mathlib.Core.List.{map}
+use lib.ListN.{length, take, length-map}
+use Rattle.plain.specs.declared.Manner.{Manner}
+use Rattle.pieces.specs.Sheet.{piecesOf, inManner}
+use Rattle.pieces.proofs.Cells.{length-pieces}
+use Rattle.pieces.proofs.Filling.{filled, piece-next}
+use Rattle.pieces.proofs.numbers_of.Statement.{statement}
+use Rattle.pieces.proofs.numbers_of.Tie as tie
+
+abbrev Inv-loop : tie.InvT-loop
+Inv-loop items sheet₀ i₀ sheet i = (i ≤ 1024) × (length sheet ≡ 4096) × ((m : Manner) → take i (piecesOf m sheet) ≡ take i (map (inManner m) items))
+
+abbrev μ-loop : tie.MeasureT-loop
+μ-loop items sheet₀ i₀ sheet i = 1024 - i
+
+blank-numbers-requires : tie.Need-blank-numbers-requires Inv-loop μ-loop
+blank-numbers-requires c κs = search needs
+
+loop-holds : tie.Need-loop-holds Inv-loop μ-loop
+loop-holds c = (omega arith, c .blank-numbers .ensures, (λ m. refl))
+
+mul-piece : tie.Need-mul-piece Inv-loop μ-loop
+mul-piece c = omega arith
+
+array-copy-out-piece : tie.Need-array-copy-out-piece Inv-loop μ-loop
+array-copy-out-piece c = omega arith
+
+put-piece-requires : tie.Need-put-piece-requires Inv-loop μ-loop
+put-piece-requires c κs = search needs
+
+put-cents-requires : tie.Need-put-cents-requires Inv-loop μ-loop
+put-cents-requires c κs = search needs
+
+add-i : tie.Need-add-i Inv-loop μ-loop
+add-i c = omega arith
+
+loop-less : tie.Need-loop-less Inv-loop μ-loop
+loop-less c = omega arith
+
+loop-again : tie.Need-loop-again Inv-loop μ-loop
+loop-again c =
+    let n = c .before .before .before .before .before in
+    let k = n .before .loop in
+    let p = c .before .before .put-piece in
+    let d = c .put-cents in
+    let items = n .before .before .before .args .t1 in
+    let long : length items ≡ 1024 = search needs in
+    (omega arith, d .ensures .1, (λ m. piece-next m items _ (k .i) long (n .loop-test .taken) (k .sheet) (p .last .0) (d .last .0) (k .inv .2 m) (p .ensures .0 m) (d .ensures .0 m)))
+
+returns : tie.Need-returns Inv-loop μ-loop
+returns c =
+    let k = c .before .loop in
+    let items = c .before .before .before .args .t1 in
+    let long : length items ≡ 1024 = search needs in
+    let all : k .i ≡ 1024 = omega arith in
+    ((λ m. filled (piecesOf m (k .sheet)) (map (inManner m) items) 1024 (omega (arith, length-pieces m (k .sheet))) (omega (arith, length-map items (inManner m))) (rw all at (k .inv .2 m))), k .inv .1)
+
+pub numbers-of-spec : {M : Type 1} → statement M
+numbers-of-spec =
+    tie.close
+    (tie.spec
+    Inv-loop
+    μ-loop
+    blank-numbers-requires
+    loop-holds
+    mul-piece
+    array-copy-out-piece
+    put-piece-requires
+    put-cents-requires
+    add-i
+    loop-less
+    loop-again
+    returns)

@@ -1,0 +1,62 @@
+use borrow.Author.Needs.{needs}
+use lib.ListN.{length-set}
+use Rattle.pieces.proofs.Cells.{piece-stored}
+use Rattle.pieces.proofs.put_piece.Statement.{statement}
+use Rattle.pieces.proofs.put_piece.Tie as tie
+
+mul-at : tie.Need-mul-at
+mul-at c = search needs
+
+mul-sheet : tie.Need-mul-sheet
+mul-sheet c = search needs
+
+element-write-sheet : tie.Need-element-write-sheet
+element-write-sheet c = search needs
+
+add-sheet : tie.Need-add-sheet
+add-sheet c = search needs
+
+mul-sheet-2 : tie.Need-mul-sheet-2
+mul-sheet-2 c = search needs
+
+element-write-sheet-2 : tie.Need-element-write-sheet-2
+element-write-sheet-2 c = search needs
+
+add-sheet-2 : tie.Need-add-sheet-2
+add-sheet-2 c = search needs
+
+mul-sheet-3 : tie.Need-mul-sheet-3
+mul-sheet-3 c = search needs
+
+element-write-sheet-3 : tie.Need-element-write-sheet-3
+element-write-sheet-3 c = search needs
+
+add-sheet-3 : tie.Need-add-sheet-3
+add-sheet-3 c = search needs
+
+mul-sheet-4 : tie.Need-mul-sheet-4
+mul-sheet-4 c = search needs
+
+element-write-sheet-4 : tie.Need-element-write-sheet-4
+element-write-sheet-4 c = search needs
+
+returns : tie.Need-returns
+returns c = ((λ m. piece-stored m _ _ _ _ _ (c .pre .0) (c .pre .1) (search needs) (search needs) (search needs)), simp length-set (c .pre .0))
+
+pub put-piece-spec : {M : Type 1} → statement M
+put-piece-spec =
+    tie.close
+    (tie.spec
+    mul-at
+    mul-sheet
+    element-write-sheet
+    add-sheet
+    mul-sheet-2
+    element-write-sheet-2
+    add-sheet-2
+    mul-sheet-3
+    element-write-sheet-3
+    add-sheet-3
+    mul-sheet-4
+    element-write-sheet-4
+    returns)

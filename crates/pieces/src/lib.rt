@@ -1,0 +1,105 @@
+// The sheet of a discharge as numbers that a caller lends: four for each piece, 1,024 pieces. The manner is the call's.
+ghost use mathlib.Core.Path.{_≡_};
+ghost use mathlib.Core.List.{map};
+ghost use Prim.Native.Nat.{_<_};
+ghost use lib.ListN.{length, getD, set};
+ghost use Rattle.pieces.specs.Sheet.{piecesOf, unpriced, withCents, inManner};
+use plain::Manner;
+use plain::Piece;
+
+pub fn put_piece(sheet: &mut [u64; 4096], place: usize, short: u16, long: u16, units: u32)
+    requires { ⌜ (length (now sheet) ≡ 4096) × (place < 1024) ⌝ }
+    ensures { λ _. ⌜ ((m : Manner) → piecesOf m (now (sheet .exit)) ≡ set (piecesOf m (now (sheet .entry))) place (unpriced m short long units)) × (length (now (sheet .exit)) ≡ 4096) ⌝ }
+{
+    let at = 4 * place;
+    sheet[at] = short as u64;
+    sheet[at + 1] = long as u64;
+    sheet[at + 2] = units as u64;
+    sheet[at + 3] = 0;
+}
+
+// The long of a piece, and its units.
+pub fn long_at(sheet: &[u64; 4096], place: usize) -> u16
+    requires { ⌜ place < 1024 ⌝ }
+    ensures { λ r. ⌜ ((m : Manner) → r ≡ getD (piecesOf m (now (sheet .entry))) place (unpriced m 0 0 0) .long) ⌝ }
+{
+    (sheet[4 * place + 1] % 65536) as u16
+}
+
+pub fn units_at(sheet: &[u64; 4096], place: usize) -> u32
+    requires { ⌜ place < 1024 ⌝ }
+    ensures { λ r. ⌜ ((m : Manner) → r ≡ getD (piecesOf m (now (sheet .entry))) place (unpriced m 0 0 0) .quantity) ⌝ }
+{
+    (sheet[4 * place + 2] % 4294967296) as u32
+}
+
+// The cents of a piece; the rest of it stays.
+pub fn put_cents(sheet: &mut [u64; 4096], place: usize, cents: u64)
+    requires { ⌜ (length (now sheet) ≡ 4096) × (place < 1024) ⌝ }
+    ensures { λ _. ⌜ ((m : Manner) → piecesOf m (now (sheet .exit)) ≡ set (piecesOf m (now (sheet .entry))) place (withCents cents (getD (piecesOf m (now (sheet .entry))) place (unpriced m 0 0 0)))) × (length (now (sheet .exit)) ≡ 4096) ⌝ }
+{
+    sheet[4 * place + 3] = cents;
+}
+
+pub fn piece_at(sheet: &[u64; 4096], place: usize, manner: Manner) -> Piece
+    requires { ⌜ place < 1024 ⌝ }
+    ensures { λ r. ⌜ r ≡ getD (piecesOf manner (now (sheet .entry))) place (unpriced manner 0 0 0) ⌝ }
+{
+    let at = 4 * place;
+    Piece {
+        short: (sheet[at] % 65536) as u16,
+        long: (sheet[at + 1] % 65536) as u16,
+        quantity: (sheet[at + 2] % 4294967296) as u32,
+        manner,
+        cents: sheet[at + 3],
+    }
+}
+
+// 1,024 places for pieces.
+pub fn blank_pieces() -> [Piece; 1024]
+    ensures { λ r. ⌜ length r ≡ 1024 ⌝ }
+{
+    let piece = Piece {
+        short: 0,
+        long: 0,
+        quantity: 0,
+        manner: Manner::Delivered,
+        cents: 0,
+    };
+    [piece; 1024]
+}
+
+// All places of the sheet as pieces of one manner.
+pub fn pieces_of(sheet: &[u64; 4096], manner: Manner) -> [Piece; 1024]
+    ensures { λ r. ⌜ r ≡ piecesOf manner (now (sheet .entry)) ⌝ }
+{
+    let mut items = blank_pieces();
+    let mut i: usize = 0;
+    while i < 1024 {
+        items[i] = piece_at(sheet, i, manner);
+        i += 1;
+    }
+    items
+}
+
+// The numbers of a sheet.
+pub fn blank_numbers() -> [u64; 4096]
+    ensures { λ r. ⌜ length r ≡ 4096 ⌝ }
+{
+    [0; 4096]
+}
+
+// The numbers that stand for these pieces, whatever their manners.
+pub fn numbers_of(items: [Piece; 1024]) -> [u64; 4096]
+    ensures { λ r. ⌜ ((m : Manner) → piecesOf m r ≡ map (inManner m) items) × (length r ≡ 4096) ⌝ }
+{
+    let mut sheet = blank_numbers();
+    let mut i: usize = 0;
+    while i < 1024 {
+        let piece = items[i];
+        put_piece(&mut sheet, i, piece.short, piece.long, piece.quantity);
+        put_cents(&mut sheet, i, piece.cents);
+        i += 1;
+    }
+    sheet
+}

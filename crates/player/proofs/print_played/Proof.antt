@@ -1,0 +1,64 @@
+-- `player::print_played` meets its contract.
+use borrow.Author.Needs.{needs}
+use Rattle.player.proofs.print_played.Statement.{statement}
+use Rattle.player.proofs.print_played.Tie as tie
+
+blank-page-requires : tie.Need-blank-page-requires
+blank-page-requires c κs = search needs
+
+blank-rows-requires : tie.Need-blank-rows-requires
+blank-rows-requires c κs = search needs
+
+blank-trades-requires : tie.Need-blank-trades-requires
+blank-trades-requires c κs = search needs
+
+blank-awards-requires : tie.Need-blank-awards-requires
+blank-awards-requires c κs = search needs
+
+no-counts-requires : tie.Need-no-counts-requires
+no-counts-requires c κs = search needs
+
+blank-numbers-requires : tie.Need-blank-numbers-requires
+blank-numbers-requires c κs = search needs
+
+slice-aggregate-print-events : tie.Need-slice-aggregate-print-events
+slice-aggregate-print-events c = search needs
+
+print-events-requires : tie.Need-print-events-requires
+print-events-requires c κs =
+    let n = c .before .before .before .before .before .before in
+    let k = n .before in
+    let a = k .before in
+    let t = a .before in
+    let r = t .before in
+    let g = r .before in
+    let s = g .before .before in (
+      s .pre _ (record { rows = r .blank-rows .ensures; trades = t .blank-trades .ensures; awards = a .blank-awards .ensures; counts = k .no-counts .ensures }),
+      n .blank-numbers .ensures,
+      g .blank-page .ensures,
+    )
+
+slice-aggregate-print-end : tie.Need-slice-aggregate-print-end
+slice-aggregate-print-end c = search needs
+
+print-end-requires : tie.Need-print-end-requires
+print-end-requires c κs = search needs
+
+returns : tie.Need-returns
+returns c = search needs
+
+pub print-played-spec : {M : Type 1} → statement M
+print-played-spec =
+    tie.close
+    (tie.spec
+    blank-page-requires
+    blank-rows-requires
+    blank-trades-requires
+    blank-awards-requires
+    no-counts-requires
+    blank-numbers-requires
+    slice-aggregate-print-events
+    print-events-requires
+    slice-aggregate-print-end
+    print-end-requires
+    returns)

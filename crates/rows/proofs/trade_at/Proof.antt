@@ -1,0 +1,86 @@
+use borrow.Author.Needs.{needs}
+use mathlib.Core.Path.{sym}
+use Rattle.rows.proofs.Cells.{trade-is}
+use Rattle.rows.proofs.trade_at.Statement.{statement}
+use Rattle.rows.proofs.trade_at.Tie as tie
+
+mul-at : tie.Need-mul-at
+mul-at c = search needs
+
+mul-t4 : tie.Need-mul-t4
+mul-t4 c = search needs
+
+element-copy-out-t7 : tie.Need-element-copy-out-t7
+element-copy-out-t7 c = search needs
+
+cast-t9 : tie.Need-cast-t9
+cast-t9 c = search needs
+
+add-t10 : tie.Need-add-t10
+add-t10 c = search needs
+
+mul-t11 : tie.Need-mul-t11
+mul-t11 c = search needs
+
+element-copy-out-t14 : tie.Need-element-copy-out-t14
+element-copy-out-t14 c = search needs
+
+cast-t16 : tie.Need-cast-t16
+cast-t16 c = search needs
+
+add-t17 : tie.Need-add-t17
+add-t17 c = search needs
+
+mul-t18 : tie.Need-mul-t18
+mul-t18 c = search needs
+
+element-copy-out-t21 : tie.Need-element-copy-out-t21
+element-copy-out-t21 c = search needs
+
+cast-t23 : tie.Need-cast-t23
+cast-t23 c = search needs
+
+add-t24 : tie.Need-add-t24
+add-t24 c = search needs
+
+mul-t25 : tie.Need-mul-t25
+mul-t25 c = search needs
+
+element-copy-out-t28 : tie.Need-element-copy-out-t28
+element-copy-out-t28 c = search needs
+
+add-t29 : tie.Need-add-t29
+add-t29 c = search needs
+
+mul-t30 : tie.Need-mul-t30
+mul-t30 c = search needs
+
+element-copy-out-t33 : tie.Need-element-copy-out-t33
+element-copy-out-t33 c = search needs
+
+returns : tie.Need-returns
+returns c = sym (trade-is _ _ (c .before .before .before .before .before .pre))
+
+pub trade-at-spec : {M : Type 1} → statement M
+trade-at-spec =
+    tie.close
+    (tie.spec
+    mul-at
+    mul-t4
+    element-copy-out-t7
+    cast-t9
+    add-t10
+    mul-t11
+    element-copy-out-t14
+    cast-t16
+    add-t17
+    mul-t18
+    element-copy-out-t21
+    cast-t23
+    add-t24
+    mul-t25
+    element-copy-out-t28
+    add-t29
+    mul-t30
+    element-copy-out-t33
+    returns)
