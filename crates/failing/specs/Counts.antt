@@ -33,7 +33,7 @@ pub record Counted (day : ℕ) (ps : List Position) (words counts : List ℕ) : 
   pub failing : (s : ℕ) → Within 1 32 s → FailingWord day ps s (nth 0 words s)
   pub counted : (s m : ℕ) → Within 1 32 s → m ≤ 63 → getD counts (countPlace s m) 0 ≡ lateShorts day ps s m
 
--- "delivery days never fall along the positions": those of earlier days than this are the ones before a place
+-- delivery days never fall along the positions, so that those of earlier days than this are the ones before a place
 pub record LateBefore (day : ℕ) (ps : List Position) (place : ℕ) : Type 0 where
   pub inside : place ≤ length ps
   pub earlier : (j : ℕ) → j < place → getD ps j noPosition .settlement .0 < day
