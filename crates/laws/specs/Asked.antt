@@ -58,3 +58,11 @@ within-low low high n e = leb-true low n (and-left (leb low n) (leb n high) e)
 pub within-high : (low high n : ℕ) → within low high n ≡ true → n ≤ high
 unfolding within
 within-high low high n e = leb-true n high (and-right (leb low n) (leb n high) e)
+
+-- the same as two facts
+pub record Within (low high n : ℕ) : Type 0 where
+  pub above : low ≤ n
+  pub below : n ≤ high
+
+pub both-bounds : (low high n : ℕ) → within low high n ≡ true → Within low high n
+both-bounds low high n e = record { above = within-low low high n e; below = within-high low high n e }
