@@ -5,20 +5,18 @@ use crate::refusal::Refusal;
 mod library {
     #[link(name = "desk", kind = "static")]
     extern "C" {
-        pub fn fails_step(class: u8, r: u16) -> u8;
-        pub fn fails_ceiling(class: u8, latest: u32) -> u64;
-        pub fn fails_cash_price(class: u8, short: u32, long: u32, latest: u32) -> u64;
-        pub fn fails_rounded(value: u64, divisor: u32) -> u64;
-        pub fn fails_cash_fee(value: u64) -> u64;
-        pub fn fails_award_fine(class: u8, value: u64) -> u64;
-        pub fn fails_late_fine(value: u64) -> u64;
-        pub fn fails_register(register: *const u8, length: usize) -> u64;
-        pub fn fails_day_to_date(opening: u32, holidays: *const u8, length: usize, day: u32) -> u64;
-        pub fn fails_date_to_day(opening: u32, holidays: *const u8, length: usize, date: u32) -> u64;
-        pub fn fails_file(file: *const u8, length: usize) -> u64;
-        pub fn fails_copy_file(file: *const u8, length: usize, page: *mut u8, page_length: usize) -> u64;
-        pub fn fails_last_call(input: *const u8, length: usize, closes: u32, sheet: u32) -> u64;
-        pub fn fails_last_lines(input: *const u8, length: usize, page: *mut u8, page_length: usize) -> u32;
+        pub fn desk_step(class: u8, r: u16) -> u8;
+        pub fn desk_ceiling(class: u8, latest: u32) -> u64;
+        pub fn desk_cash_price(class: u8, short: u32, long: u32, latest: u32) -> u64;
+        pub fn desk_rounded(value: u64, divisor: u32) -> u64;
+        pub fn desk_cash_fee(value: u64) -> u64;
+        pub fn desk_award_fine(class: u8, value: u64) -> u64;
+        pub fn desk_late_fine(value: u64) -> u64;
+        pub fn desk_register(register: *const u8, length: usize) -> u64;
+        pub fn desk_day_to_date(opening: u32, holidays: *const u8, length: usize, day: u32) -> u64;
+        pub fn desk_date_to_day(opening: u32, holidays: *const u8, length: usize, date: u32) -> u64;
+        pub fn desk_file(file: *const u8, length: usize) -> u64;
+        pub fn desk_copy_file(file: *const u8, length: usize, page: *mut u8, page_length: usize) -> u64;
     }
 }
 
@@ -39,8 +37,8 @@ impl Answer {
         Answer { refusal, quantity: 0 }
     }
 
-    /// The library answers refusal number * 2^32 + quantity.
-    fn unpacked(packed: u64) -> Answer {
+    /// The libraries answer refusal number * 2^32 + quantity.
+    pub fn unpacked(packed: u64) -> Answer {
         Answer { refusal: (packed >> 32) as u32, quantity: packed as u32 }
     }
 }
@@ -58,61 +56,49 @@ impl From<Result<u32, Refusal>> for Answer {
 // whole, as its own pointer and length, for the time of the call.
 
 pub fn step(class: u8, r: u16) -> u8 {
-    unsafe { library::fails_step(class, r) }
+    unsafe { library::desk_step(class, r) }
 }
 
 pub fn ceiling(class: u8, latest: u32) -> u64 {
-    unsafe { library::fails_ceiling(class, latest) }
+    unsafe { library::desk_ceiling(class, latest) }
 }
 
 pub fn cash_price(class: u8, short_reference: u32, long_reference: u32, latest: u32) -> u64 {
-    unsafe { library::fails_cash_price(class, short_reference, long_reference, latest) }
+    unsafe { library::desk_cash_price(class, short_reference, long_reference, latest) }
 }
 
 pub fn rounded(value: u64, divisor: u32) -> u64 {
-    unsafe { library::fails_rounded(value, divisor) }
+    unsafe { library::desk_rounded(value, divisor) }
 }
 
 pub fn cash_fee(value: u64) -> u64 {
-    unsafe { library::fails_cash_fee(value) }
+    unsafe { library::desk_cash_fee(value) }
 }
 
 pub fn award_fine(class: u8, value: u64) -> u64 {
-    unsafe { library::fails_award_fine(class, value) }
+    unsafe { library::desk_award_fine(class, value) }
 }
 
 pub fn late_fine(value: u64) -> u64 {
-    unsafe { library::fails_late_fine(value) }
+    unsafe { library::desk_late_fine(value) }
 }
 
 pub fn register(register: &[u8]) -> Answer {
-    Answer::unpacked(unsafe { library::fails_register(register.as_ptr(), register.len()) })
+    Answer::unpacked(unsafe { library::desk_register(register.as_ptr(), register.len()) })
 }
 
 pub fn day_to_date(opening: u32, holidays: &[u8], day: u32) -> Answer {
-    Answer::unpacked(unsafe { library::fails_day_to_date(opening, holidays.as_ptr(), holidays.len(), day) })
+    Answer::unpacked(unsafe { library::desk_day_to_date(opening, holidays.as_ptr(), holidays.len(), day) })
 }
 
 pub fn date_to_day(opening: u32, holidays: &[u8], date: u32) -> Answer {
-    Answer::unpacked(unsafe { library::fails_date_to_day(opening, holidays.as_ptr(), holidays.len(), date) })
+    Answer::unpacked(unsafe { library::desk_date_to_day(opening, holidays.as_ptr(), holidays.len(), date) })
 }
 
 pub fn file(file: &[u8]) -> Answer {
-    Answer::unpacked(unsafe { library::fails_file(file.as_ptr(), file.len()) })
+    Answer::unpacked(unsafe { library::desk_file(file.as_ptr(), file.len()) })
 }
 
 pub fn copy_file(file: &[u8], page: &mut [u8]) -> Answer {
-    Answer::unpacked(unsafe { library::fails_copy_file(file.as_ptr(), file.len(), page.as_mut_ptr(), page.len()) })
-}
-
-/// The answer to the last call of the player's input, made with a sheet of so many places on a book that has first
-/// been closed so many times.
-pub fn last_call(input: &[u8], closes: u32, sheet: u32) -> Answer {
-    Answer::unpacked(unsafe { library::fails_last_call(input.as_ptr(), input.len(), closes, sheet) })
-}
-
-/// The lines of the last event of the player's input, its call made on a lent sheet, written into the page's first
-/// bytes: how many bytes they have.
-pub fn last_lines(input: &[u8], page: &mut [u8]) -> u32 {
-    unsafe { library::fails_last_lines(input.as_ptr(), input.len(), page.as_mut_ptr(), page.len()) }
+    Answer::unpacked(unsafe { library::desk_copy_file(file.as_ptr(), file.len(), page.as_mut_ptr(), page.len()) })
 }

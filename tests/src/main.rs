@@ -1,4 +1,4 @@
-//! Compares the static library `desk` and the player with a second implementation, written from document 01 and
+//! Compares the static libraries `desk` and `probe` and the player with a second implementation, written from document 01 and
 //! ISO 6166 in another style.
 //!
 //! An argument, if given, is the seed of the second round; else that round has a seed of its own in each run.
@@ -6,6 +6,7 @@
 mod check;
 mod compare;
 mod desk;
+mod probe;
 
 use calendar::Calendar;
 use check::{Round, Tests};

@@ -1,11 +1,12 @@
 -- What a call in place leaves of a book's parts is what the call returns of the book as one value, on a sheet of any length.
-use Prim.Native.Nat.{ℕ, _≤_, _<_}
+use Prim.Native.Nat.{ℕ, zero, suc, _<_}
 use native.Mathlib.Omega.{arith}
 use mathlib.Core.Path.{_≡_, refl, ap, sym, _∙_, subst}
 use mathlib.Core.List.{List, []}
 use mathlib.Core.Bool.{true, false, true≢false}
 use lib.Dec.{ltb}
-use borrow.Author.Tests.{lt-ltb, le-ltb}
+use borrow.Author.Tests.{lt-ltb}
+use Rattle.laws.specs.Refusals.{accepted}
 use Rattle.events.specs.declared.Event.{Event}
 use Rattle.events.specs.declared.Event.the-variants as event
 use Rattle.plain.specs.declared.Piece.{Piece}
@@ -13,17 +14,16 @@ use Rattle.plain.specs.declared.Manner.{Manner}
 use Rattle.plain.specs.declared.Outcome.{Outcome}
 use Rattle.plain.specs.declared.Outcome.the-variants as outcome
 use Rattle.plain.specs.Book as plain
-use Rattle.plain.specs.Calls.{Call, call}
+use Rattle.plain.specs.Calls.{Call, call, isDischarge, handsOut}
 use Rattle.plain.specs.Refusals.{reasons, refusal}
+use Rattle.plain.specs.Histories as histories
 use Rattle.tables.specs.Tables.{pieces}
 use Rattle.tables.specs.Lent.{pieceTable}
 use Rattle.pieces.proofs.Cells.{length-pieces}
 use Rattle.calls.specs.View.{keptOf, Called, CalledOn}
 use Rattle.calls.proofs.Returns.{refused}
 use Rattle.calls.proofs.Stepping as calls
-use Rattle.calls.proofs.Stepping.{isDischarge, any-sheet}
 use Rattle.book.specs.declared.Book.{Book}
-use Rattle.book.specs.declared.Answered.{Answered}
 use Rattle.book.specs.declared.Discharged.{Discharged}
 use Rattle.book.specs.View.{numbersIn, view, Valid, Returned}
 use Rattle.book.specs.Stepping.{WithoutPieces, Stepped}
@@ -100,33 +100,52 @@ short-sheet b (event.Confirm c) n d h = rw h
 short-sheet b (event.Cash c) n d h = rw h
 short-sheet b event.Close n d h = absurd (true≢false (sym d))
 
+-- an event that is no discharge hands out no piece
+none-handed : (b : plain.Book) (e : Event) → isDischarge e ≡ false → handsOut b e ≡ []
+unfolding handsOut
+none-handed b (event.Trade t) h = refl
+none-handed b (event.Price p) h = refl
+none-handed b (event.Delivery d) h = absurd (true≢false h)
+none-handed b (event.Attempt a) h = refl
+none-handed b (event.Offer o) h = refl
+none-handed b (event.Award a) h = refl
+none-handed b (event.Confirm c) h = absurd (true≢false h)
+none-handed b (event.Cash c) h = absurd (true≢false h)
+none-handed b event.Close h = refl
+
+accepted-same : {A : Type 0} (n : ℕ) (x : A) → accepted n x x ≡ x
+accepted-same zero x = refl
+accepted-same (suc n) x = refl
+
+no-pieces : (b : plain.Book) (e : Event) (n : ℕ) → isDischarge e ≡ false → histories.pieces b (call e n) ≡ []
+unfolding histories.pieces
+no-pieces b e n bare = rw (none-handed b e bare) (accepted-same (refusal b (call e n)) [])
+
 module _ (b : Book) (e : Event) (n : ℕ) where
-  -- a discharge on a sheet that is long enough, by the call in place on one of 1,024 places
-  pub discharged : 1024 ≤ n → (after : Book) (o : Outcome) (m : Manner) (sheet left : List ℕ) (made : ℕ)
+  -- an event whose sheet, if it has one, is long enough, by the call in place on one of 1,024 places
+  pub stepped : refusal (view b) (call e 1024) ≡ refusal (view b) (call e n) → (after : Book) (o : Outcome) (m : Manner) (sheet left : List ℕ) (made : ℕ)
       → CalledOn (b .core) (numbersIn b) (call e 1024) m sheet (after .core) (numbersIn after) left o made
       → Stepped b e n (record { book = after; outcome = o; pieces = pieceTable m left made })
   unfolding pieces
-  discharged long after o m sheet left made d =
+  stepped same after o m sheet left made d =
       record {
-        returned = other-sheet b after o _ e 1024 n (long-sheet (view b) e n (le-ltb n 1024 long)) (returned b after o _ (call e 1024) (d .called));
+        returned = other-sheet b after o _ e 1024 n same (returned b after o _ (call e 1024) (d .called));
         pieces-fit = record { places = length-pieces m left; held = d .few };
       }
 
-  -- an answer without pieces: of a call that has no sheet, or of a discharge on one that is too small
-  without : (a : Answered) (r : Discharged) → Returned b (call e n) (a .book) (a .outcome) [] → WithoutPieces a r → Stepped b e n r
-  without a r h w = record { returned = rw (w .book, w .outcome, w .pieces) h; pieces-fit = w .pieces-fit }
-
+  -- a discharge on a sheet that is too small
   pub too-small : isDischarge e ≡ true → n < 1024 → (r : Discharged) → Valid b → WithoutPieces (record { book = b; outcome = outcome.Refused 8 }) r → Stepped b e n r
   unfolding view
-  too-small d small r v =
-      without _ r
-      (returned b b (outcome.Refused 8) [] (call e n)
-      (refused (b .core) (numbersIn b) (call e n) 8 (v .held) (short-sheet (view b) e n d (lt-ltb n 1024 small)) (omega arith) .called))
+  too-small d small r v w =
+      record {
+        returned =
+            rw (w .book, w .outcome, w .pieces)
+            (returned b b (outcome.Refused 8) [] (call e n)
+            (refused (b .core) (numbersIn b) (call e n) 8 (v .held) (short-sheet (view b) e n d (lt-ltb n 1024 small)) (omega arith) .called));
+        pieces-fit = w .pieces-fit;
+      }
 
-  -- the event x, which is e
-  module _ (x : Event) (is : x ≡ e) (r : Discharged) where
-    pub with-pieces : Stepped b e n r → Stepped b x n r
-    with-pieces = subst (λ (y : Event). Stepped b y n r) (sym is)
-
-    pub without-pieces : (a : Answered) → Returned b (call e 0) (a .book) (a .outcome) [] → WithoutPieces a r → isDischarge e ≡ false → Stepped b x n r
-    without-pieces a h w bare = with-pieces (without a r (other-sheet b (a .book) (a .outcome) [] e 0 n (any-sheet (view b) e 0 n bare) h) w)
+  -- an event that is no discharge returns no piece
+  pub without-sheet : isDischarge e ≡ false → (r : Discharged) → Stepped b e n r → Returned b (call e n) (r .book) (r .outcome) []
+  without-sheet bare r s =
+      subst (λ (xs : List Piece). Returned b (call e n) (r .book) (r .outcome) xs) (s .returned .pieces ∙ no-pieces (view b) e n bare) (s .returned)

@@ -3,7 +3,7 @@ use Prim.Native.Nat.{ℕ}
 use mathlib.Core.Path.{_≡_}
 use mathlib.Core.List.{List}
 use Rattle.register.specs.Register.{registerRead}
-use Rattle.plain.specs.Book.{new}
+use Rattle.plain.specs.Book.{openingRead, new}
 use Rattle.book.specs.declared.Opened.{Opened}
 use Rattle.book.specs.View.{view, Valid}
 
@@ -12,5 +12,5 @@ use Rattle.book.specs.View.{view, Valid}
 -- Where the bytes are refused the register read is the empty one, and the book of it is not valid: no call takes it.
 pub record OpenedOn (bytes : List ℕ) (o : Opened) : Type 0 where
   pub number : o .number ≡ registerRead bytes .number
-  pub book : view (o .book) ≡ new (registerRead bytes .register)
+  pub book : view (o .book) ≡ new (openingRead bytes)
   pub valid : o .number ≡ 0 → Valid (o .book)

@@ -1,15 +1,17 @@
-// The fails book as one value: a core with its tables of numbers, whose fields only this crate can change. Each call lends local copies of
-// the tables to the call in place (`calls`) and puts them back.
+// The fails book as one value: a core with its tables of numbers, whose fields only this crate can change. `step` lends local copies of the
+// tables to the event's call in place (`calls`) and puts them back, and each call is `step` of its event.
 ghost use mathlib.Core.Path.{_≡_};
 ghost use mathlib.Core.List.{[]};
+ghost use mathlib.Core.Bool.{false};
 ghost use lib.ListN.{length};
 ghost use Rattle.events.specs.declared.Event.the-variants as event;
 ghost use Rattle.plain.specs.declared.Outcome.the-variants as outcome;
-ghost use Rattle.plain.specs.Calls.{call};
-ghost use Rattle.plain.proofs.Accounts.{Places};
+ghost use Rattle.plain.specs.Calls.{call, isDischarge};
+ghost use Rattle.plain.specs.Sound.{Places};
 ghost use Rattle.tables.specs.Lent.{pieceTable};
 ghost use Rattle.calls.specs.View.{numbers, bookOf, Held};
-ghost use Rattle.calls.specs.Reading.{PositionRead, AwardRead, BalanceRead};
+ghost use Rattle.calls.specs.Reading.{positionAnswer, awardAnswer, balanceAnswer};
+ghost use Rattle.calls.specs.Stepping.{mannerOf};
 ghost use Rattle.book.specs.View.{withCore, view, Valid, Returned};
 ghost use Rattle.book.specs.Opening.{OpenedOn};
 ghost use Rattle.book.specs.Stepping.{WithoutPieces, Stepped};
@@ -26,14 +28,12 @@ use events::Offer;
 use events::Price;
 use events::Trade;
 use laws::BusinessDay;
+use laws::PLACES;
 use plain::Ledger;
 use plain::Manner;
 use plain::Outcome;
 use refusals::SMALL_SHEET;
 use tables::Pieces;
-
-// The places that a discharge asks of its sheet.
-const PLACES: usize = 1024;
 
 pub struct Book {
     core: Core,
@@ -120,7 +120,7 @@ pub fn position_count(book: Book) -> usize
 
 pub fn position(book: Book, number: u16) -> PositionAnswer
     requires { ⌜ Valid book ⌝ }
-    ensures { λ r. ⌜ PositionRead (view book) number r ⌝ }
+    ensures { λ r. ⌜ r ≡ positionAnswer (view book) number ⌝ }
 {
     let rows = book.rows;
     calls::position(book.core, &rows, number)
@@ -128,7 +128,7 @@ pub fn position(book: Book, number: u16) -> PositionAnswer
 
 pub fn award_at(book: Book, number: u16) -> AwardAnswer
     requires { ⌜ Valid book ⌝ }
-    ensures { λ r. ⌜ AwardRead (view book) number r ⌝ }
+    ensures { λ r. ⌜ r ≡ awardAnswer (view book) number ⌝ }
 {
     let awards = book.awards;
     calls::award_at(book.core, &awards, number)
@@ -136,7 +136,7 @@ pub fn award_at(book: Book, number: u16) -> AwardAnswer
 
 pub fn balance(book: Book, account: u8) -> BalanceAnswer
     requires { ⌜ Valid book ⌝ }
-    ensures { λ r. ⌜ BalanceRead (view book) account r ⌝ }
+    ensures { λ r. ⌜ r ≡ balanceAnswer (view book) account ⌝ }
 {
     calls::balance(book.core, account)
 }
@@ -149,81 +149,55 @@ pub fn accounts(book: Book) -> Ledger
     calls::accounts(book.core)
 }
 
-// A book whose tables were lent gets the core that the call returned.
-fn with_core(book: Book, answered: calls::Answered) -> Answered
-    ensures { λ r. ⌜ r ≡ record { book = withCore book (answered .core); outcome = answered .outcome } ⌝ }
+// Whether the event is a discharge, whose call has a sheet.
+fn is_discharge(e: Event) -> bool
+    ensures { λ r. ⌜ r ≡ isDischarge e ⌝ }
 {
-    let core = answered.core;
-    let outcome = answered.outcome;
-    let mut after = book;
-    after.core = core;
-    Answered {
-        book: after,
-        outcome,
+    match e {
+        Event::Trade(_) => false,
+        Event::Price(_) => false,
+        Event::Delivery(_) => true,
+        Event::Attempt(_) => false,
+        Event::Offer(_) => false,
+        Event::Award(_) => false,
+        Event::Confirm(_) => true,
+        Event::Cash(_) => true,
+        Event::Close => false,
     }
 }
 
-pub fn trade(book: Book, t: Trade) -> Answered
-    requires { ⌜ Valid book ⌝ }
-    ensures { λ r. ⌜ Returned book (call (event.Trade t) 0) (r .book) (r .outcome) [] ⌝ }
+// The manner of an event's pieces. An event that is no discharge has none, so that its manner does not matter.
+fn manner_of(e: Event) -> Manner
+    ensures { λ r. ⌜ r ≡ mannerOf e ⌝ }
 {
-    let mut after = book;
-    let answered = calls::trade(book.core, &mut after.trades, t);
-    with_core(after, answered)
+    match e {
+        Event::Trade(_) => Manner::Delivered,
+        Event::Price(_) => Manner::Delivered,
+        Event::Delivery(_) => Manner::Delivered,
+        Event::Attempt(_) => Manner::Delivered,
+        Event::Offer(_) => Manner::Delivered,
+        Event::Award(_) => Manner::Delivered,
+        Event::Confirm(_) => Manner::BoughtIn,
+        Event::Cash(_) => Manner::Cash,
+        Event::Close => Manner::Delivered,
+    }
 }
 
-pub fn price(book: Book, p: Price) -> Answered
-    requires { ⌜ Valid book ⌝ }
-    ensures { λ r. ⌜ Returned book (call (event.Price p) 0) (r .book) (r .outcome) [] ⌝ }
+// A sheet that is too small turns a discharge down before anything else.
+fn small_sheet(book: Book) -> Discharged
+    ensures { λ r. ⌜ WithoutPieces (record { book = book; outcome = outcome.Refused 8 }) r ⌝ }
 {
-    let answered = calls::price(book.core, p);
-    with_core(book, answered)
+    let outcome = Outcome::Refused(SMALL_SHEET);
+    let items = pieces::blank_pieces();
+    let pieces = Pieces { items, count: 0 };
+    Discharged {
+        book,
+        outcome,
+        pieces,
+    }
 }
 
-pub fn attempt(book: Book, a: Attempt) -> Answered
-    requires { ⌜ Valid book ⌝ }
-    ensures { λ r. ⌜ Returned book (call (event.Attempt a) 0) (r .book) (r .outcome) [] ⌝ }
-{
-    let rows = book.rows;
-    let answered = calls::attempt(book.core, &rows, a);
-    with_core(book, answered)
-}
-
-pub fn offer(book: Book, o: Offer) -> Answered
-    requires { ⌜ Valid book ⌝ }
-    ensures { λ r. ⌜ Returned book (call (event.Offer o) 0) (r .book) (r .outcome) [] ⌝ }
-{
-    let rows = book.rows;
-    let answered = calls::offer(book.core, &rows, o);
-    with_core(book, answered)
-}
-
-pub fn award(book: Book, a: events::Award) -> Answered
-    requires { ⌜ Valid book ⌝ }
-    ensures { λ r. ⌜ Returned book (call (event.Award a) 0) (r .book) (r .outcome) [] ⌝ }
-{
-    let rows = book.rows;
-    let mut after = book;
-    let answered = calls::award(book.core, &rows, &mut after.awards, a);
-    with_core(after, answered)
-}
-
-pub fn close(book: Book) -> Answered
-    requires { ⌜ Valid book ⌝ }
-    ensures { λ r. ⌜ Returned book (call event.Close 0) (r .book) (r .outcome) [] ⌝ }
-{
-    let mut rows = book.rows;
-    let trades = book.trades;
-    let awards = book.awards;
-    let mut counts = book.counts;
-    let answered = calls::close(book.core, &mut rows, &trades, &awards, &mut counts);
-    let mut after = book;
-    after.rows = rows;
-    after.counts = counts;
-    with_core(after, answered)
-}
-
-// The book after a discharge, with the first pieces of its sheet.
+// A book whose tables were lent gets the core that the call returned, and the first pieces of the sheet are handed out.
 fn handed_out(
     book: Book,
     answered: calls::Answered,
@@ -235,9 +209,10 @@ fn handed_out(
     let items = pieces::pieces_of(sheet, manner);
     let count = answered.pieces;
     let pieces = Pieces { items, count };
-    let done = with_core(book, answered);
-    let after = done.book;
-    let outcome = done.outcome;
+    let core = answered.core;
+    let outcome = answered.outcome;
+    let mut after = book;
+    after.core = core;
     Discharged {
         book: after,
         outcome,
@@ -245,96 +220,112 @@ fn handed_out(
     }
 }
 
-fn without_pieces(answered: Answered) -> Discharged
-    ensures { λ r. ⌜ WithoutPieces answered r ⌝ }
+// One event, by the call of its kind: the only function that lends the fields of a book to a call.
+pub fn step(book: Book, sheet: usize, e: Event) -> Discharged
+    requires { ⌜ Valid book ⌝ }
+    ensures { λ r. ⌜ Stepped book e sheet r ⌝ }
 {
-    let book = answered.book;
-    let outcome = answered.outcome;
-    let items = pieces::blank_pieces();
-    let pieces = Pieces { items, count: 0 };
-    Discharged {
-        book,
-        outcome,
-        pieces,
+    if is_discharge(e) {
+        if sheet < PLACES {
+            return small_sheet(book);
+        }
     }
-}
-
-// A sheet that is too small turns a discharge down before anything else.
-fn small_sheet(book: Book) -> Discharged
-    ensures { λ r. ⌜ WithoutPieces (record { book = book; outcome = outcome.Refused 8 }) r ⌝ }
-{
-    let outcome = Outcome::Refused(SMALL_SHEET);
-    without_pieces(Answered { book, outcome })
+    let mut rows = book.rows;
+    let mut trades = book.trades;
+    let mut awards = book.awards;
+    let mut counts = book.counts;
+    let mut lent = pieces::blank_numbers();
+    let answered = calls::step(
+        book.core,
+        &mut rows,
+        &mut trades,
+        &mut awards,
+        &mut counts,
+        &mut lent,
+        e,
+    );
+    let mut after = book;
+    after.rows = rows;
+    after.trades = trades;
+    after.awards = awards;
+    after.counts = counts;
+    let manner = manner_of(e);
+    handed_out(after, answered, &lent, manner)
 }
 
 pub fn delivery(book: Book, sheet: usize, d: Delivery) -> Discharged
     requires { ⌜ Valid book ⌝ }
     ensures { λ r. ⌜ Stepped book (event.Delivery d) sheet r ⌝ }
 {
-    if sheet < PLACES {
-        return small_sheet(book);
-    }
-    let mut rows = book.rows;
-    let awards = book.awards;
-    let mut counts = book.counts;
-    let mut lent = pieces::blank_numbers();
-    let answered = calls::delivery(book.core, &mut rows, &awards, &mut counts, &mut lent, d);
-    let mut after = book;
-    after.rows = rows;
-    after.counts = counts;
-    handed_out(after, answered, &lent, Manner::Delivered)
+    step(book, sheet, Event::Delivery(d))
 }
 
 pub fn confirm(book: Book, sheet: usize, c: Confirm) -> Discharged
     requires { ⌜ Valid book ⌝ }
     ensures { λ r. ⌜ Stepped book (event.Confirm c) sheet r ⌝ }
 {
-    if sheet < PLACES {
-        return small_sheet(book);
-    }
-    let mut rows = book.rows;
-    let mut awards = book.awards;
-    let mut counts = book.counts;
-    let mut lent = pieces::blank_numbers();
-    let answered = calls::confirm(book.core, &mut rows, &mut awards, &mut counts, &mut lent, c);
-    let mut after = book;
-    after.rows = rows;
-    after.awards = awards;
-    after.counts = counts;
-    handed_out(after, answered, &lent, Manner::BoughtIn)
+    step(book, sheet, Event::Confirm(c))
 }
 
 pub fn cash(book: Book, sheet: usize, c: Cash) -> Discharged
     requires { ⌜ Valid book ⌝ }
     ensures { λ r. ⌜ Stepped book (event.Cash c) sheet r ⌝ }
 {
-    if sheet < PLACES {
-        return small_sheet(book);
-    }
-    let mut rows = book.rows;
-    let mut counts = book.counts;
-    let mut lent = pieces::blank_numbers();
-    let answered = calls::cash(book.core, &mut rows, &mut counts, &mut lent, c);
-    let mut after = book;
-    after.rows = rows;
-    after.counts = counts;
-    handed_out(after, answered, &lent, Manner::Cash)
+    step(book, sheet, Event::Cash(c))
 }
 
-// One event, by the call of its kind.
-pub fn step(book: Book, sheet: usize, e: Event) -> Discharged
-    requires { ⌜ Valid book ⌝ }
-    ensures { λ r. ⌜ Stepped book e sheet r ⌝ }
+// An event that is no discharge: its call has no sheet, and no piece is handed out.
+fn without_sheet(book: Book, e: Event) -> Answered
+    requires { ⌜ (Valid book) × (isDischarge e ≡ false) ⌝ }
+    ensures { λ r. ⌜ Returned book (call e 0) (r .book) (r .outcome) [] ⌝ }
 {
-    match e {
-        Event::Trade(t) => without_pieces(trade(book, t)),
-        Event::Price(p) => without_pieces(price(book, p)),
-        Event::Delivery(d) => delivery(book, sheet, d),
-        Event::Attempt(a) => without_pieces(attempt(book, a)),
-        Event::Offer(o) => without_pieces(offer(book, o)),
-        Event::Award(a) => without_pieces(award(book, a)),
-        Event::Confirm(c) => confirm(book, sheet, c),
-        Event::Cash(c) => cash(book, sheet, c),
-        Event::Close => without_pieces(close(book)),
+    let done = step(book, 0, e);
+    let after = done.book;
+    let outcome = done.outcome;
+    Answered {
+        book: after,
+        outcome,
     }
+}
+
+pub fn trade(book: Book, t: Trade) -> Answered
+    requires { ⌜ Valid book ⌝ }
+    ensures { λ r. ⌜ Returned book (call (event.Trade t) 0) (r .book) (r .outcome) [] ⌝ }
+{
+    without_sheet(book, Event::Trade(t))
+}
+
+pub fn price(book: Book, p: Price) -> Answered
+    requires { ⌜ Valid book ⌝ }
+    ensures { λ r. ⌜ Returned book (call (event.Price p) 0) (r .book) (r .outcome) [] ⌝ }
+{
+    without_sheet(book, Event::Price(p))
+}
+
+pub fn attempt(book: Book, a: Attempt) -> Answered
+    requires { ⌜ Valid book ⌝ }
+    ensures { λ r. ⌜ Returned book (call (event.Attempt a) 0) (r .book) (r .outcome) [] ⌝ }
+{
+    without_sheet(book, Event::Attempt(a))
+}
+
+pub fn offer(book: Book, o: Offer) -> Answered
+    requires { ⌜ Valid book ⌝ }
+    ensures { λ r. ⌜ Returned book (call (event.Offer o) 0) (r .book) (r .outcome) [] ⌝ }
+{
+    without_sheet(book, Event::Offer(o))
+}
+
+pub fn award(book: Book, a: events::Award) -> Answered
+    requires { ⌜ Valid book ⌝ }
+    ensures { λ r. ⌜ Returned book (call (event.Award a) 0) (r .book) (r .outcome) [] ⌝ }
+{
+    without_sheet(book, Event::Award(a))
+}
+
+pub fn close(book: Book) -> Answered
+    requires { ⌜ Valid book ⌝ }
+    ensures { λ r. ⌜ Returned book (call event.Close 0) (r .book) (r .outcome) [] ⌝ }
+{
+    without_sheet(book, Event::Close)
 }

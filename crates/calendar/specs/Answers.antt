@@ -4,6 +4,7 @@ use mathlib.Core.List.{List, [], _∷_, _++_}
 use mathlib.Core.Bool.{not}
 use lib.Dec.{ltb}
 use lib.ListN.{length}
+use Rattle.laws.specs.Limits.{LAST-DAY}
 use Rattle.laws.specs.Lists.{every}
 use Rattle.laws.specs.Asked.{within}
 use Rattle.laws.specs.Refusals.{Reason, _⇒_, first}
@@ -48,7 +49,7 @@ holidayReasons bytes =
 -- "30. The day falls after 2099."
 abbrev pub numberReasons : ℕ → List ℕ → ℕ → List Reason
 numberReasons opening hs number =
-    (not (within 1 9999 number) ⇒ 29)
+    (not (within 1 LAST-DAY number) ⇒ 29)
     ∷ (ltb (length (businessDays hs (dayNumber opening))) number ⇒ 30)
     ∷ []
 
@@ -56,7 +57,7 @@ abbrev pub dateReasons : ℕ → List ℕ → ℕ → List Reason
 dateReasons opening hs date =
     (ltb (dayNumber date) (dayNumber opening) ⇒ 29)
     ∷ (not (business hs (dayNumber date)) ⇒ 29)
-    ∷ (ltb 9999 (businessNumber hs (dayNumber opening) (dayNumber date)) ⇒ 29)
+    ∷ (ltb LAST-DAY (businessNumber hs (dayNumber opening) (dayNumber date)) ⇒ 29)
     ∷ []
 
 unfoldable pub dayToDateRefusal : ℕ → List ℕ → ℕ → ℕ

@@ -2,11 +2,10 @@
 use Prim.Native.Nat.{ℕ, _+_, _-_, _*_, _/_, _%_, _<_, _≤_}
 use mathlib.Core.Path.{_≡_}
 use mathlib.Core.List.{List, [], _∷_, map}
-use mathlib.Core.Bool.{Bool, true, not, _&&_}
+use mathlib.Core.Bool.{Bool, true, cond, not, _&&_}
 use lib.Dec.{ltb, eqb}
 use lib.ListN.{length, getD}
 use Rattle.laws.specs.Lists.{range, filter, every, some}
-use Rattle.laws.specs.Refusals.{choose}
 use Rattle.laws.specs.Words.{word32At}
 use Rattle.calendar.specs.Dates.{valid, dayNumber, allDays}
 use Rattle.calendar.specs.declared.Upcoming.{Upcoming}
@@ -52,7 +51,7 @@ businessNumber holidays opening day = length (filter (business holidays) (range 
 
 -- Of a walk along the holidays: the calendar day of the i-th, counted from 0, and past the last the day after 2099
 unfoldable pub holidayDay : List ℕ → ℕ → ℕ
-holidayDay bytes i = choose (ltb i (length bytes / 4)) (dayNumber (dateAt bytes i)) allDays
+holidayDay bytes i = cond (ltb i (length bytes / 4)) (dayNumber (dateAt bytes i)) allDays
 
 -- holidays that pass refusals 27 and 28
 pub record Ordered (bytes : List ℕ) : Type 0 where

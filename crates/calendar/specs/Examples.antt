@@ -13,6 +13,7 @@ use Rattle.calendar.specs.Answers.{dayRefusal, dayValue, dayToDate, date
 use Rattle.calendar.specs.Theorems.{date-again}
 use Rattle.calendar.specs.declared.DateAnswer.the-variants as date
 
+-- a row of numbers: `plain`'s worked table has rows of any type, and `calendar` stands below it
 pub record Row : Type 0 where
   pub worked : ℕ
   pub expected : ℕ

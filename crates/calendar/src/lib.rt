@@ -25,7 +25,7 @@ const ALL_DAYS: u16 = 36525;
 
 const MOST_HOLIDAYS: usize = 64;
 
-const LAST_BUSINESS_DAY: u32 = 9999;
+const LAST_BUSINESS_DAY: u32 = laws::LAST_DAY as u32;
 
 const INVALID_DATE: u8 = 27;
 

@@ -1,12 +1,10 @@
 -- A confirmation in place: its refusals are the plain book's, and what it changes stands for what the plain book changes.
-use Prim.Native.Nat.{ℕ, _-_, _<_}
+use Prim.Native.Nat.{ℕ, _-_}
 use native.Mathlib.Omega.{arith}
 use mathlib.Core.Path.{_≡_, sym, _∙_}
 use mathlib.Core.Logic.{_≢_}
 use mathlib.Core.List.{List, [], _∷_}
 use lib.ListN.{length, take, getD}
-use lib.Seq.{getD-take}
-use Rattle.laws.specs.Alls.{all-at}
 use Rattle.rules.specs.Charges.{buyInCharge}
 use Rattle.events.specs.declared.Confirm.{Confirm}
 use Rattle.events.specs.declared.Event.the-variants as event
@@ -18,14 +16,14 @@ use Rattle.plain.specs.declared.Outcome.the-variants as outcome
 use Rattle.plain.specs.Book.{noAward, awardOf}
 use Rattle.plain.specs.Charging.{charge, posted}
 use Rattle.plain.specs.Calls.{call}
-use Rattle.plain.specs.Refusals.{refusal}
-use Rattle.plain.proofs.Accepted.{Within}
-use Rattle.plain.proofs.Invariants.{AwardFits}
+use Rattle.plain.specs.Refusals.{refusal, lookupReasons, confirmReasons}
+use Rattle.laws.specs.Asked.{Within}
+use Rattle.plain.specs.Invariants.{AwardFits}
 use Rattle.tables.specs.Tables as table
 use Rattle.tables.specs.Lent.{awardTable, rowOf}
 use Rattle.rows.specs.Rows.{awardsOf}
 use Rattle.pieces.specs.Sheet.{piecesOf}
-use Rattle.refusals.specs.Discharging.{lookupRefusal, confirmRefusal}
+use Rattle.laws.specs.Refusals.{first}
 use Rattle.auction.specs.Awards.{Confirmable, Confirmed}
 use Rattle.ledger.specs.Tabled.{Chargeable}
 use Rattle.kept.specs.View.{view}
@@ -37,24 +35,25 @@ use Rattle.calls.specs.View.{Numbers, numbers, keptOf, bookOf, Held, Tak
 use Rattle.calls.specs.Cores.{dischargedCore}
 use Rattle.calls.proofs.Returns.{refused-on, taken-called}
 use Rattle.calls.proofs.Walking.{row-is, discharging}
+use Rattle.plain.proofs.Numbered.{nth-take, nth-all}
 
 -- the award of a number that is in use, as its row has it
-award-read : (b : Core) (a : Numbers) (n : ℕ) (award : Award) → n - 1 < b .awards → award ≡ getD (awardsOf (a .awards)) (n - 1) noAward → award ≡ awardOf (bookOf b a) n
+award-read : (b : Core) (a : Numbers) (n : ℕ) (award : Award) → Within 1 (b .awards) n → award ≡ getD (awardsOf (a .awards)) (n - 1) noAward → award ≡ awardOf (bookOf b a) n
 unfolding view table.awards
-award-read b a n award in-use row = row ∙ sym (getD-take (b .awards) (awardsOf (a .awards)) (n - 1) noAward in-use)
+award-read b a n award in-use row = row ∙ sym (nth-take noAward (awardsOf (a .awards)) (b .awards) n in-use)
 
 module _ (b : Core) (a : Numbers) (h : Held b a) (c : Confirm) where
-  pub confirm-missing : (number : ℕ) (sheet : List ℕ) → number ≡ lookupRefusal 1024 (b .awards) (c .award) → number ≢ 0 → length sheet ≡ 4096
+  pub confirm-missing : (number : ℕ) (sheet : List ℕ) → number ≡ first (lookupReasons 1024 (b .awards) (c .award)) → number ≢ 0 → length sheet ≡ 4096
       → CalledOn b a (call (event.Confirm c) 1024) manner.BoughtIn sheet b a sheet (outcome.Refused number) 0
   confirm-missing number sheet e some long =
       refused-on b a (call (event.Confirm c) 1024) manner.BoughtIn sheet number h (missing-number 1024 _ _ _ _ (confirm-split (keptOf b a) (h .valid) c 1024) number e some) some long
 
-  module _ (award : Award) (number : ℕ) (there : lookupRefusal 1024 (b .awards) (c .award) ≡ 0) (row : award ≡ getD (awardsOf (a .awards)) (c .award - 1) noAward) (is : number ≡ confirmRefusal award) where
+  module _ (award : Award) (number : ℕ) (there : first (lookupReasons 1024 (b .awards) (c .award)) ≡ 0) (row : award ≡ getD (awardsOf (a .awards)) (c .award - 1) noAward) (is : number ≡ first (confirmReasons award)) where
     number-is : refusal (bookOf b a) (call (event.Confirm c) 1024) ≡ number
     unfolding view
     number-is =
         let w = lookup-there 1024 (b .awards) (c .award) there in
-        confirm-number (keptOf b a) (h .valid) c 1024 award number there (award-read b a (c .award) award (omega (arith, w .above, w .below)) row) is
+        confirm-number (keptOf b a) (h .valid) c 1024 award number there (award-read b a (c .award) award w row) is
 
     pub confirm-refused : (sheet : List ℕ) → number ≢ 0 → length sheet ≡ 4096 → CalledOn b a (call (event.Confirm c) 1024) manner.BoughtIn sheet b a sheet (outcome.Refused number) 0
     confirm-refused sheet some long = refused-on b a (call (event.Confirm c) 1024) manner.BoughtIn sheet number h number-is some long
@@ -69,8 +68,8 @@ module _ (b : Core) (a : Numbers) (c : Confirm) (t : Taken b a (call (event.Conf
   pub confirmable : Confirmable (awardTable (a .awards) (b .awards)) (c .award)
   confirmable = buy-in-confirmable (keptOf b a) (t .held .valid) c able
 
-  in-use : c .award - 1 < b .awards
-  in-use = omega (arith, confirmable .low, confirmable .high)
+  in-use : Within 1 (b .awards) (c .award)
+  in-use = record { above = confirmable .low; below = confirmable .high }
 
   award-is : award ≡ awardOf (bookOf b a) (c .award)
   award-is = award-read b a (c .award) award in-use row
@@ -82,7 +81,7 @@ module _ (b : Core) (a : Numbers) (c : Confirm) (t : Taken b a (call (event.Conf
   unfolding view
   some-units =
       rw award-is
-      (λ e. omega (arith, e, all-at AwardFits (table.awards (keptOf b a .awards)) (c .award - 1) noAward (omega (arith, in-use, awards-many (keptOf b a .awards) (t .held .valid .fits .awards))) (t .held .valid .sound .auctioned .awards-fit) .quantity .above))
+      (λ e. omega (arith, e, nth-all noAward AwardFits (table.awards (keptOf b a .awards)) (c .award) (rw (awards-many (keptOf b a .awards) (t .held .valid .fits .awards)) in-use) (t .held .valid .sound .auctioned .awards-fit) .quantity .above))
 
   module _ (p : Position) (own : p ≡ rowOf (a .rows) (award .position)) where
     pub buying-in : (sheet : List ℕ) → length sheet ≡ 4096 → Discharging (b .day .0) (a .rows) (b .positions) (a .counts) sheet (b .followed) (award .position) p (award .quantity) manner.BoughtIn

@@ -1,5 +1,5 @@
 -- A delivery in place: its refusals are the plain book's, and what it changes stands for what the plain book changes.
-use Prim.Native.Nat.{ℕ}
+use Prim.Native.Nat.{ℕ, _-_}
 use mathlib.Core.Path.{_≡_, _∙_}
 use mathlib.Core.Logic.{_≢_}
 use mathlib.Core.List.{List}
@@ -11,12 +11,12 @@ use Rattle.plain.specs.declared.Manner.the-variants as manner
 use Rattle.plain.specs.declared.Outcome.the-variants as outcome
 use Rattle.plain.specs.Auction.{unconfirmed}
 use Rattle.plain.specs.Calls.{call}
-use Rattle.plain.specs.Refusals.{refusal}
+use Rattle.plain.specs.Refusals.{lookupReasons, deliveryReasons, refusal}
 use Rattle.plain.proofs.Accepted.{delivery-taken}
 use Rattle.tables.specs.Tables as table
 use Rattle.tables.specs.Lent.{rowOf}
 use Rattle.pieces.specs.Sheet.{piecesOf}
-use Rattle.refusals.specs.Discharging.{lookupRefusal, deliveryRefusal}
+use Rattle.laws.specs.Refusals.{first}
 use Rattle.kept.proofs.Discharging.{lookup-there, missing-number, delivery-split, delivery-number, delivery-dealing, delivered}
 use Rattle.calls.specs.declared.Core.{Core}
 use Rattle.calls.specs.declared.Followed.{Followed}
@@ -26,13 +26,13 @@ use Rattle.calls.proofs.Returns.{refused-on, taken-called}
 use Rattle.calls.proofs.Walking.{row-is, discharging}
 
 module _ (b : Core) (a : Numbers) (h : Held b a) (d : Delivery) where
-  pub delivery-missing : (number : ℕ) (sheet : List ℕ) → number ≡ lookupRefusal 1024 (b .positions) (d .position) → number ≢ 0 → length sheet ≡ 4096
+  pub delivery-missing : (number : ℕ) (sheet : List ℕ) → number ≡ first (lookupReasons 1024 (b .positions) (d .position)) → number ≢ 0 → length sheet ≡ 4096
       → CalledOn b a (call (event.Delivery d) 1024) manner.Delivered sheet b a sheet (outcome.Refused number) 0
   delivery-missing number sheet e some long =
       refused-on b a (call (event.Delivery d) 1024) manner.Delivered sheet number h (missing-number 1024 _ _ _ _ (delivery-split (keptOf b a) (h .valid) d 1024) number e some) some long
 
-  module _ (p : Position) (reserved number : ℕ) (there : lookupRefusal 1024 (b .positions) (d .position) ≡ 0) (row : p ≡ rowOf (a .rows) (d .position))
-      (units : reserved ≡ unconfirmed (d .position) (table.awards (keptOf b a .awards))) (is : number ≡ deliveryRefusal p (b .day .0) (b .auction .position) reserved d) where
+  module _ (p : Position) (reserved number : ℕ) (there : first (lookupReasons 1024 (b .positions) (d .position)) ≡ 0) (row : p ≡ rowOf (a .rows) (d .position))
+      (units : reserved ≡ unconfirmed (d .position) (table.awards (keptOf b a .awards))) (is : number ≡ first (deliveryReasons p (b .day .0) (b .auction .position) (p .unsettled - reserved) d)) where
     number-is : refusal (bookOf b a) (call (event.Delivery d) 1024) ≡ number
     number-is =
         delivery-number (keptOf b a) (h .valid) d 1024 p reserved number there (row ∙ row-is b a h (d .position) (lookup-there 1024 (b .positions) (d .position) there)) units is

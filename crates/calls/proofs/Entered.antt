@@ -1,5 +1,5 @@
 -- A trade entered into the lent table of trades.
-use Prim.Native.Nat.{ℕ, _+_, _<_, _-_, _≤_}
+use Prim.Native.Nat.{ℕ, _<_, _-_, _≤_}
 use mathlib.Core.Path.{_≡_, refl, ap, sym, _∙_, subst}
 use mathlib.Core.Logic.{_≢_}
 use mathlib.Core.List.{List}
@@ -8,23 +8,19 @@ use Rattle.events.specs.declared.Trade.{Trade}
 use Rattle.events.specs.declared.Event.the-variants as event
 use Rattle.plain.specs.declared.Outcome.the-variants as outcome
 use Rattle.plain.specs.Calls.{call, handsOut, amount}
-use Rattle.plain.specs.Refusals.{refusal}
+use Rattle.plain.specs.Refusals.{tradeReasons, priceReasons, refusal}
 use Rattle.rows.specs.Rows.{tradesOf}
-use Rattle.refusals.specs.Entering.{tradeRefusal, priceRefusal}
+use Rattle.laws.specs.Refusals.{first}
 use native.Mathlib.Omega.{arith}
 use Rattle.events.specs.declared.Price.{Price}
 use Rattle.kept.proofs.Entered.{price-number, price-security, price-view, price-fits, trade-number, trade-room, withTrade, trade-view, trade-fits}
 use Rattle.calls.specs.declared.Core.{Core}
 use Rattle.kept.specs.View.{view, Fits}
+use Rattle.calls.specs.Cores.{tradedCore, pricedCore}
 use Rattle.calls.specs.View.{Numbers, numbers, keptOf, bookOf, Held, CalledBare}
 use Rattle.calls.proofs.Returns.{refused, taken}
 
--- the core with one more trade held
-abbrev pub oneMore : Core → Core
-oneMore b =
-    record { register = b .register; day = b .day; prices = b .prices; auction = b .auction; marks = b .marks; ledger = b .ledger; followed = b .followed; positions = b .positions; trades = b .trades + 1; netted = b .netted; awards = b .awards }
-
-module _ (b : Core) (rows trades awards counts : List ℕ) (t : Trade) (h : Held b (numbers rows trades awards counts)) (number : ℕ) (e : number ≡ tradeRefusal (b .register .count) (b .trades) t) where
+module _ (b : Core) (rows trades awards counts : List ℕ) (t : Trade) (h : Held b (numbers rows trades awards counts)) (number : ℕ) (e : number ≡ first (tradeReasons (b .opening .register .count) (b .trades) t)) where
   abbrev a : Numbers
   a = numbers rows trades awards counts
 
@@ -34,22 +30,17 @@ module _ (b : Core) (rows trades awards counts : List ℕ) (t : Trade) (h : Held
   pub trade-refused : number ≢ 0 → CalledBare b a (call (event.Trade t) 0) b a (outcome.Refused number) 0
   trade-refused some = refused b a (call (event.Trade t) 0) number h number-is some
 
-  pub trade-taken : number ≡ 0 → (exit : List ℕ) → tradesOf exit ≡ set (tradesOf trades) (b .trades) t → length exit ≡ 2560 → CalledBare b a (call (event.Trade t) 0) (oneMore b) (numbers rows exit awards counts) (outcome.Done (t .quantity)) 0
+  pub trade-taken : number ≡ 0 → (exit : List ℕ) → tradesOf exit ≡ set (tradesOf trades) (b .trades) t → length exit ≡ 2560 → CalledBare b a (call (event.Trade t) 0) (tradedCore b) (numbers rows exit awards counts) (outcome.Done (t .quantity)) 0
   unfolding amount handsOut
   trade-taken z exit put long =
-      let room : b .trades < 512 = trade-room (b .register .count) (b .trades) t (sym e ∙ z) in
-      let same : keptOf (oneMore b) (numbers rows exit awards counts) ≡ withTrade (keptOf b a) t = rw put in
-      taken b a (call (event.Trade t) 0) (oneMore b) (numbers rows exit awards counts) (t .quantity) h (number-is ∙ z) refl refl
+      let room : b .trades < 512 = trade-room (b .opening .register .count) (b .trades) t (sym e ∙ z) in
+      let same : keptOf (tradedCore b) (numbers rows exit awards counts) ≡ withTrade (keptOf b a) t = rw put in
+      taken b a (call (event.Trade t) 0) (tradedCore b) (numbers rows exit awards counts) (t .quantity) h (number-is ∙ z) refl refl
       (ap view same ∙ trade-view (keptOf b a) t (h .valid .fits) room)
       (subst Fits (sym same) (trade-fits (keptOf b a) t (h .valid .fits) room))
       (record { rows = h .lent .rows; trades = long; awards = h .lent .awards; follows = h .lent .follows })
 
--- the core with a security's latest price
-abbrev pub pricedCore : Core → Price → Core
-pricedCore b p =
-    record { register = b .register; day = b .day; prices = record { latest = set (b .prices .latest) (p .security - 1) (p .price) }; auction = b .auction; marks = b .marks; ledger = b .ledger; followed = b .followed; positions = b .positions; trades = b .trades; netted = b .netted; awards = b .awards }
-
-module _ (b : Core) (a : Numbers) (p : Price) (h : Held b a) (number : ℕ) (e : number ≡ priceRefusal (b .register .count) p) where
+module _ (b : Core) (a : Numbers) (p : Price) (h : Held b a) (number : ℕ) (e : number ≡ first (priceReasons (b .opening .register .count) p)) where
   price-is : refusal (bookOf b a) (call (event.Price p) 0) ≡ number
   price-is = price-number (keptOf b a) p ∙ sym e
 
@@ -58,7 +49,7 @@ module _ (b : Core) (a : Numbers) (p : Price) (h : Held b a) (number : ℕ) (e :
 
   pub price-place : number ≡ 0 → (1 ≤ p .security) × (p .security ≤ 32)
   price-place z =
-      let s = price-security (b .register .count) p (sym e ∙ z) in
+      let s = price-security (b .opening .register .count) p (sym e ∙ z) in
       (s .0, omega (arith, s .1, h .valid .fits .register .high))
 
   pub price-taken : number ≡ 0 → CalledBare b a (call (event.Price p) 0) (pricedCore b p) a (outcome.Done 0) 0

@@ -5,7 +5,7 @@ use mathlib.Core.Path.{_≡_, refl, ap, _∙_}
 use mathlib.Core.List.{List}
 use lib.ListN.{length, getD, replicate}
 use Rattle.register.specs.Accepted.{Registered}
-use Rattle.plain.specs.Book.{new, nth}
+use Rattle.plain.specs.Book.{firstDay, noPrice, new, nth}
 use Rattle.rows.specs.Rows.{rowsOf}
 use Rattle.rows.proofs.Cells.{length-rows, length-trades, length-awards}
 use Rattle.positions.specs.Dealing.{ClosedBefore}
@@ -34,12 +34,12 @@ started-new starts items e =
     }
   where
     zero-at : (s : ℕ) → nth 0 starts s ≡ 0
-    zero-at s = ap (λ (xs : List ℕ). nth 0 xs s) e ∙ zeros-at 32 (s - 1)
+    zero-at s = ap (λ (xs : List ℕ). nth 0 xs s) e ∙ zeros-at 33 s
 
 -- what each part of a new core ensures
 pub record New (b : Core) : Type 0 where
-  pub day : b .day .0 ≡ 1
-  pub prices : b .prices .latest ≡ replicate 32 0
+  pub day : b .day .0 ≡ firstDay (b .opening)
+  pub prices : b .prices .latest ≡ replicate 32 noPrice
   pub auction : (b .auction .position ≡ 0) × (b .auction .ceiling ≡ 0) × (b .auction .count ≡ 0) × (length (b .auction .offers) ≡ 16)
   pub marks : (b .marks .count ≡ 0) × (length (b .marks .items) ≡ 16)
   pub ledger : (b .ledger .credits ≡ replicate 64 0) × (b .ledger .debits ≡ replicate 64 0)
@@ -70,7 +70,7 @@ module _ (b : Core) (u : New b) (a : Numbers) (blank : Blank a) where
         late = rw (u .followed .2) (late-before-new (b .day .0));
       })
 
-  pub opened : (bookOf b a ≡ new (b .register)) × (Registered (b .register) → Held b a)
+  pub opened : (bookOf b a ≡ new (b .opening)) × (Registered (b .opening .register) → Held b a)
   opened = (
     unused-view (keptOf b a) unused,
     λ r. record { valid = unused-valid (keptOf b a) unused r; lent = record { rows = blank .rows; trades = blank .trades; awards = blank .awards; follows = follows } },

@@ -5,8 +5,8 @@ pub mod Walking
 pub mod Delivering
 pub mod Confirming
 pub mod Settling
-pub mod Auctions
-pub mod Closing
+pub mod Auctioning
+pub mod ClosingDay
 pub mod Fresh
 pub mod Found
 pub mod Stepping

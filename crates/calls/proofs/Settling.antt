@@ -10,7 +10,6 @@ use Rattle.laws.specs.Lists.{All, each, number}
 use Rattle.laws.specs.Alls.{all-of, all-number}
 use Rattle.rules.specs.Windows.{stepOn}
 use Rattle.rules.specs.declared.Step.{Step}
-use Rattle.register.specs.Register.{emptyRegister}
 use Rattle.events.specs.declared.Cash.{Cash}
 use Rattle.events.specs.declared.Event.the-variants as event
 use Rattle.plain.specs.declared.Position.{Position}
@@ -20,24 +19,24 @@ use Rattle.plain.specs.declared.Manner.the-variants as manner
 use Rattle.plain.specs.declared.Outcome.the-variants as outcome
 use Rattle.plain.specs.Book.{noPosition, nth}
 use Rattle.plain.specs.Dealing.{lowered, lowering}
-use Rattle.plain.specs.Charging.{Charge, payment, posted}
+use Rattle.plain.specs.Charging.{Charge, payment, posted, pricedBy, cashChargesBy, feeOf}
 use Rattle.plain.specs.Calls.{call, dealt}
-use Rattle.plain.specs.Refusals.{refusal}
-use Rattle.plain.proofs.Accepted.{Within, cash-taken}
+use Rattle.plain.specs.Refusals.{refusal, lookupReasons, cashReasons}
+use Rattle.laws.specs.Asked.{Within}
+use Rattle.plain.proofs.Accepted.{cash-taken}
 use Rattle.plain.proofs.AwardSteps.{cash-dealable}
 use Rattle.plain.proofs.Dealt.{deals}
 use Rattle.tables.specs.Tables.{Positions}
 use Rattle.tables.specs.declared.Pieces.{Pieces}
 use Rattle.tables.specs.Tables as table
 use Rattle.pieces.specs.Sheet.{piecesOf}
-use Rattle.refusals.specs.Discharging.{lookupRefusal, cashRefusal}
-use Rattle.ledger.specs.Parts as parts
-use Rattle.ledger.specs.Parts.{pricedBy, paymentsOf, cashChargesBy}
+use Rattle.plain.proofs.Numbered.{nth-alike}
+use Rattle.laws.specs.Refusals.{first}
 use Rattle.ledger.specs.Tabled.{Accounted, Priced}
 use Rattle.ledger.proofs.Elements.{position-numbered}
 use Rattle.positions.specs.Dealing.{dealtOut}
 use Rattle.tables.specs.Lent.{positionTable, pieceTable}
-use Rattle.ledger.specs.Settling.{paymentBy, paymentsBy, feeOf, Owed, Settleable}
+use Rattle.ledger.specs.Settling.{paymentBy, paymentsBy, Owed, Settleable}
 use Rattle.kept.specs.View.{view, Valid}
 use Rattle.kept.specs.Discharging.{Terms, Dischargeable}
 use Rattle.kept.proofs.Discharging.{positions-many, accounted, lookup-there, missing-number, cash-split, cash-number, cash-terms, cash-dealing, cash-priceable, cash-room, settled}
@@ -50,17 +49,10 @@ use Rattle.calls.proofs.Walking.{row-is, discharging}
 
 -- a discharge leaves members and references as they are
 module _ (xs : List Piece) where
-  member-kept : (n : ℕ) (ps : List Position) (i : ℕ) → getD (number (lowered xs) n ps) i noPosition .member ≡ getD ps i noPosition .member
-  unfolding lowered
-  member-kept n [] i = refl
-  member-kept n (p ∷ ps) zero = refl
-  member-kept n (p ∷ ps) (suc i) = member-kept (suc n) ps i
-
-  reference-kept : (n : ℕ) (ps : List Position) (i : ℕ) → getD (number (lowered xs) n ps) i noPosition .reference ≡ getD ps i noPosition .reference
-  unfolding lowered
-  reference-kept n [] i = refl
-  reference-kept n (p ∷ ps) zero = refl
-  reference-kept n (p ∷ ps) (suc i) = reference-kept (suc n) ps i
+  kept : {A : Type 0} (f : Position → A) → ((k : ℕ) (p : Position) → f (lowered xs k p) ≡ f p) → (n : ℕ) (ps : List Position) (i : ℕ) → f (getD (number (lowered xs) n ps) i noPosition) ≡ f (getD ps i noPosition)
+  kept f same n [] i = refl
+  kept f same n (p ∷ ps) zero = same n p
+  kept f same n (p ∷ ps) (suc i) = kept f same (suc n) ps i
 
   accounted-kept : (ps : List Position) → All Accounted ps → All Accounted (lowering xs ps)
   unfolding lowering lowered
@@ -93,22 +85,22 @@ module _ (class latest : ℕ) (p q : Positions) (members : (k : ℕ) → nth noP
   priced-same : (xs : List Piece) → map (pricedBy class latest (table.positions q)) xs ≡ map (pricedBy class latest (table.positions p)) xs
   priced-same xs = λ i. map (λ x. priced-one x i) xs
 
-  payments-same : (xs x : Pieces) → Priced xs p class latest x → paymentsBy class latest q xs ≡ paymentsOf x p
-  unfolding paymentsBy paymentsOf
+  payments-same : (xs x : Pieces) → Priced xs p class latest x → paymentsBy class latest q xs ≡ map (payment (table.positions p)) (table.pieces x)
+  unfolding paymentsBy
   payments-same xs x g =
       (λ i. each (λ y. payment-one y i) (table.pieces xs))
-      ∙ each-mapped (payment (parts.bookOf emptyRegister 0 [] (table.positions p))) (pricedBy class latest (table.positions p)) (table.pieces xs)
-      ∙ ap (map (payment (parts.bookOf emptyRegister 0 [] (table.positions p)))) (sym (g .priced))
+      ∙ each-mapped (payment (table.positions p)) (pricedBy class latest (table.positions p)) (table.pieces xs)
+      ∙ ap (map (payment (table.positions p))) (sym (g .priced))
 
 -- the refusals
 module _ (b : Core) (a : Numbers) (h : Held b a) (c : Cash) where
-  pub cash-missing : (number : ℕ) (sheet : List ℕ) → number ≡ lookupRefusal 1024 (b .positions) (c .position) → number ≢ 0 → length sheet ≡ 4096
+  pub cash-missing : (number : ℕ) (sheet : List ℕ) → number ≡ first (lookupReasons 1024 (b .positions) (c .position)) → number ≢ 0 → length sheet ≡ 4096
       → CalledOn b a (call (event.Cash c) 1024) manner.Cash sheet b a sheet (outcome.Refused number) 0
   cash-missing number sheet e some long =
       refused-on b a (call (event.Cash c) 1024) manner.Cash sheet number h (missing-number 1024 _ _ _ _ (cash-split (keptOf b a) (h .valid) c 1024) number e some) some long
 
-  module _ (p : Position) (class latest : ℕ) (today : Step) (number : ℕ) (there : lookupRefusal 1024 (b .positions) (c .position) ≡ 0) (terms : CashTerms b (a .rows) (c .position) p class latest)
-      (step : today ≡ stepOn class (b .day .0 - p .settlement .0)) (is : number ≡ cashRefusal p today latest) where
+  module _ (p : Position) (class latest : ℕ) (today : Step) (number : ℕ) (there : first (lookupReasons 1024 (b .positions) (c .position)) ≡ 0) (terms : CashTerms b (a .rows) (c .position) p class latest)
+      (step : today ≡ stepOn class (b .day .0 - p .settlement .0)) (is : number ≡ first (cashReasons p today latest)) where
     number-is : refusal (bookOf b a) (call (event.Cash c) 1024) ≡ number
     number-is =
         cash-number (keptOf b a) (h .valid) c 1024 p class latest today number there (terms .own ∙ row-is b a h (c .position) (lookup-there 1024 (b .positions) (c .position) there)) (terms .classed) (terms .priced) step is
@@ -155,18 +147,18 @@ module _ (b : Core) (a : Numbers) (c : Cash) (t : Taken b a (call (event.Cash c)
     dealt-pieces = pieceTable manner.Cash mid made
 
     members : (k : ℕ) → nth noPosition (table.positions left-table) k .member ≡ nth noPosition (table.positions old) k .member
-    unfolding lowering
-    members k = rw (w .dealt .positions) (member-kept (dealtOut old (b .day .0) (c .position) (p .unsettled) manner.Cash) 1 (table.positions old) (k - 1))
+    unfolding lowering lowered
+    members k = rw (w .dealt .positions) (nth-alike noPosition (λ p. p .member) (lowering (dealtOut old (b .day .0) (c .position) (p .unsettled) manner.Cash) (table.positions old)) (table.positions old) (kept (dealtOut old (b .day .0) (c .position) (p .unsettled) manner.Cash) (λ p. p .member) (λ j q. refl) 1 (table.positions old)) k)
 
     references : (k : ℕ) → nth noPosition (table.positions left-table) k .reference ≡ nth noPosition (table.positions old) k .reference
-    unfolding lowering
-    references k = rw (w .dealt .positions) (reference-kept (dealtOut old (b .day .0) (c .position) (p .unsettled) manner.Cash) 1 (table.positions old) (k - 1))
+    unfolding lowering lowered
+    references k = rw (w .dealt .positions) (nth-alike noPosition (λ p. p .reference) (lowering (dealtOut old (b .day .0) (c .position) (p .unsettled) manner.Cash) (table.positions old)) (table.positions old) (kept (dealtOut old (b .day .0) (c .position) (p .unsettled) manner.Cash) (λ p. p .reference) (λ j q. refl) 1 (table.positions old)) k)
 
-    charges-are : (x : Pieces) → Priced dealt-pieces old class latest x → paymentsBy class latest left-table dealt-pieces ++ feeOf p latest ∷ [] ≡ cashChargesBy x old (c .position) latest
+    charges-are : (x : Pieces) → Priced dealt-pieces old class latest x → paymentsBy class latest left-table dealt-pieces ++ feeOf p latest ∷ [] ≡ cashChargesBy latest (table.positions old) (c .position) (table.pieces x)
     unfolding cashChargesBy
     charges-are x g =
         ap (λ (cs : List Charge). cs ++ feeOf p latest ∷ []) (payments-same class latest old left-table members references dealt-pieces x g)
-        ∙ ap (λ (q : Position). paymentsOf x old ++ feeOf q latest ∷ []) own
+        ∙ ap (λ (q : Position). map (payment (table.positions old)) (table.pieces x) ++ feeOf q latest ∷ []) own
 
     -- the pieces as they will be, before they are priced
     ahead : Priced dealt-pieces old class latest (record { items = map (pricedBy class latest (table.positions old)) (piecesOf manner.Cash mid); count = made })

@@ -5,7 +5,7 @@ use mathlib.Core.Path.{_≡_, ap, sym, _∙_}
 use mathlib.Core.Bool.{true}
 use mathlib.Core.List.{List}
 use lib.ListN.{length, getD, take, set, length-set}
-use lib.Seq.{getD-take, length-take-le, getD-set-same, getD-set-other}
+use lib.Seq.{getD-take, length-take-le}
 use lib.Dec.{eqb}
 use borrow.Author.Tests.{eqb-true, eqb-false}
 use Rattle.laws.specs.Asked.{Said, passed, failed, ask}
@@ -16,6 +16,8 @@ use Rattle.plain.specs.Dealing.{longOf, lowered, lowering}
 use Rattle.plain.proofs.Discharged.{lowering-at}
 use Rattle.positions.specs.Dealing.{ClosedBefore}
 use Rattle.calls.specs.View.{Started}
+use Rattle.laws.specs.Asked.{Within}
+use Rattle.plain.proofs.Numbered.{nth-set-same, nth-set-other}
 
 module _ (count : ℕ) (entry exit : List Position) (xs : List Piece) (places : count ≤ length entry) (low : take count exit ≡ lowering xs (take count entry)) where
   lowered-at : (j : ℕ) → j < count → getD exit j noPosition ≡ lowered xs (suc j) (getD entry j noPosition)
@@ -34,21 +36,23 @@ module _ (count : ℕ) (entry exit : List Position) (xs : List Piece) (places : 
   closed-lowered s n few c = λ j l. rw (lowered-at j (omega (arith, l, few))) (closed-at s (suc j) (getD entry j noPosition) (c j l))
 
   module _ (starts : List ℕ) (st : Started count starts entry) (s end : ℕ) (above : 1 ≤ s) (below : s ≤ 32) (few : end ≤ count) (closed : ClosedBefore s exit end) where
-    within-at : (k : ℕ) → Said (eqb (k - 1) (s - 1)) → nth 0 (set starts (s - 1) end) k ≤ count
-    within-at k (passed e) = rw (eqb-true (k - 1) (s - 1) e, getD-set-same starts (s - 1) end 0 (omega (arith, st .places))) few
-    within-at k (failed e) = rw (getD-set-other starts (s - 1) (k - 1) end 0 (eqb-false (k - 1) (s - 1) e)) (st .within k)
+    placed : Within 1 (length starts) s
+    placed = record { above = above; below = omega (arith, st .places) }
 
-    start-at : (k : ℕ) → 1 ≤ k → Said (eqb (k - 1) (s - 1)) → ClosedBefore k exit (nth 0 (set starts (s - 1) end) k)
+    within-at : (k : ℕ) → Said (eqb k s) → nth 0 (set starts (s - 1) end) k ≤ count
+    within-at k (passed e) = rw (eqb-true k s e, nth-set-same 0 starts s end placed) few
+    within-at k (failed e) = rw (nth-set-other 0 starts s k end above (eqb-false k s e)) (st .within k)
+
+    start-at : (k : ℕ) → 1 ≤ k → Said (eqb k s) → ClosedBefore k exit (nth 0 (set starts (s - 1) end) k)
     start-at k l (passed e) =
-        let same : k ≡ s = omega (arith, eqb-true (k - 1) (s - 1) e) in
-        rw (same, getD-set-same starts (s - 1) end 0 (omega (arith, st .places))) closed
+        rw (eqb-true k s e, nth-set-same 0 starts s end placed) closed
     start-at k l (failed e) =
-        rw (getD-set-other starts (s - 1) (k - 1) end 0 (eqb-false (k - 1) (s - 1) e)) (closed-lowered k (nth 0 starts k) (st .within k) (st .closed k l))
+        rw (nth-set-other 0 starts s k end above (eqb-false k s e)) (closed-lowered k (nth 0 starts k) (st .within k) (st .closed k l))
 
     pub started-after : Started count (set starts (s - 1) end) exit
     started-after =
         record {
           places = length-set starts (s - 1) end ∙ st .places;
-          within = λ k. within-at k (ask (eqb (k - 1) (s - 1)));
-          closed = λ k l. start-at k l (ask (eqb (k - 1) (s - 1)));
+          within = λ k. within-at k (ask (eqb k s));
+          closed = λ k l. start-at k l (ask (eqb k s));
         }

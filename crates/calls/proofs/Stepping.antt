@@ -3,35 +3,23 @@ use Prim.Native.Nat.{ℕ}
 use native.Mathlib.Omega.{arith}
 use mathlib.Core.Path.{_≡_, refl, ap, sym, _∙_, subst}
 use mathlib.Core.List.{List, []}
-use mathlib.Core.Bool.{Bool, true, false, true≢false}
+use mathlib.Core.Bool.{true, false, true≢false}
 use lib.ListN.{length}
+use Rattle.laws.specs.Limits.{PLACES}
 use Rattle.laws.specs.Refusals.{accepted}
 use Rattle.events.specs.declared.Event.{Event}
 use Rattle.events.specs.declared.Event.the-variants as event
 use Rattle.plain.specs.declared.Piece.{Piece}
 use Rattle.plain.specs.declared.Manner.{Manner}
-use Rattle.plain.specs.declared.Manner.the-variants as manner
 use Rattle.plain.specs.declared.Outcome.{Outcome}
 use Rattle.plain.specs.Book as plain
-use Rattle.plain.specs.Calls.{call, handsOut, amount, done}
+use Rattle.plain.specs.Calls.{call, isDischarge, handsOut, amount, done}
 use Rattle.plain.specs.Refusals.{reasons, refusal}
 use Rattle.plain.specs.Histories.{next, pieces, quantity}
 use Rattle.kept.specs.View.{Kept, view, answer}
 use Rattle.calls.specs.declared.Core.{Core}
+use Rattle.calls.specs.Stepping.{mannerOf, Stepped}
 use Rattle.calls.specs.View.{Numbers, keptOf, bookOf, Returned, CalledBare, CalledOn}
-use Rattle.calls.specs.Stepping.{Stepped}
-
--- "A discharge (delivery, confirm, cash)": the events whose calls have a sheet
-abbrev pub isDischarge : Event → Bool
-isDischarge (event.Trade t) = false
-isDischarge (event.Price p) = false
-isDischarge (event.Delivery d) = true
-isDischarge (event.Attempt a) = false
-isDischarge (event.Offer o) = false
-isDischarge (event.Award a) = false
-isDischarge (event.Confirm c) = true
-isDischarge (event.Cash c) = true
-isDischarge event.Close = false
 
 -- an event that is no discharge is refused alike whatever the sheet's length
 pub any-sheet : (b : plain.Book) (e : Event) (m n : ℕ) → isDischarge e ≡ false → refusal b (call e m) ≡ refusal b (call e n)
@@ -62,31 +50,28 @@ module _ (b : Kept) (e : Event) (m n : ℕ) (same : refusal (view b) (call e m) 
         kept = λ k. r .kept (λ z. k (sym same ∙ z));
       }
 
-module _ (b : Core) (a : Numbers) (x : Event) (after : Core) (z : Numbers) (left : List ℕ) (o : Outcome) (n : ℕ) where
-  -- an event x that is e, whose call has no sheet
-  pub stepped-bare : (e : Event) → x ≡ e → isDischarge e ≡ false → length left ≡ 4096 → CalledBare b a (call e 0) after z o n → Stepped b a x after z left o n
-  stepped-bare e is none long d =
-      let r = other-sheet (keptOf b a) e 0 1024 (any-sheet (bookOf b a) e 0 1024 none) (keptOf after z) o [] (d .called .returned) in
-      subst (λ (y : Event). Stepped b a y after z left o n) (sym is)
-      (record {
-        held = record { valid = r .valid; lent = d .called .lent };
-        book = r .book;
-        outcome = r .outcome;
-        pieces = (manner.Delivered, rw (d .none) (r .pieces));
-        few = omega (arith, d .none);
-        places = long;
-      })
+-- an event that is no discharge, whose call has no sheet: a sheet that is lent beside it stays as it is
+pub bare-on : (b : Core) (a : Numbers) (e : Event) (m : Manner) (sheet : List ℕ) (after : Core) (z : Numbers) (o : Outcome) (n : ℕ)
+    → isDischarge e ≡ false → length sheet ≡ 4096 → CalledBare b a (call e 0) after z o n → CalledOn b a (call e PLACES) m sheet after z sheet o n
+bare-on b a e m sheet after z o n none long d =
+    let same : refusal (bookOf b a) (call e 0) ≡ refusal (bookOf b a) (call e PLACES) = any-sheet (bookOf b a) e 0 PLACES none in
+    record {
+      called =
+          rw (d .none)
+          (record {
+            returned = other-sheet (keptOf b a) e 0 PLACES same (keptOf after z) o [] (d .called .returned);
+            lent = d .called .lent;
+            kept = λ k. d .called .kept (λ z. k (sym same ∙ z));
+          });
+      places = long;
+      few = omega (arith, d .none);
+      kept = λ k. refl;
+    }
 
-  -- one whose call is on the sheet
-  pub stepped-on : (e : Event) (m : Manner) (sheet : List ℕ) → x ≡ e → CalledOn b a (call e 1024) m sheet after z left o n → Stepped b a x after z left o n
-  stepped-on e m sheet is d =
-      let r = d .called .returned in
-      subst (λ (y : Event). Stepped b a y after z left o n) (sym is)
-      (record {
-        held = record { valid = r .valid; lent = d .called .lent };
-        book = r .book;
-        outcome = r .outcome;
-        pieces = (m, r .pieces);
-        few = d .few;
-        places = d .places;
-      })
+-- the event x, which is e: what its call returned, where it was made by the call of its kind
+module _ (b : Core) (a : Numbers) (x : Event) (after : Core) (z : Numbers) (left : List ℕ) (o : Outcome) (n : ℕ) (e : Event) (is : x ≡ e) where
+  pub stepped-on : (sheet : List ℕ) → Stepped b a e sheet after z left o n → Stepped b a x sheet after z left o n
+  stepped-on sheet = subst (λ (y : Event). Stepped b a y sheet after z left o n) (sym is)
+
+  pub stepped-bare : isDischarge e ≡ false → length left ≡ 4096 → CalledBare b a (call e 0) after z o n → Stepped b a x left after z left o n
+  stepped-bare none long d = stepped-on left (bare-on b a e (mannerOf e) left after z o n none long d)

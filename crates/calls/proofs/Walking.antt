@@ -10,9 +10,9 @@ use Rattle.plain.specs.declared.Manner.{Manner}
 use Rattle.plain.specs.Book.{noPosition, nth}
 use Rattle.plain.specs.Calls.{dealt}
 use Rattle.plain.specs.Dealing.{lowering}
-use Rattle.plain.proofs.Accepted.{Within}
+use Rattle.laws.specs.Asked.{Within}
 use Rattle.plain.proofs.Dealt.{deals}
-use Rattle.plain.proofs.Invariants.{Dealable, Deals}
+use Rattle.plain.specs.Invariants.{Dealable, Deals}
 use Rattle.rows.specs.Rows.{rowsOf}
 use Rattle.tables.specs.Tables as table
 use Rattle.tables.specs.Lent.{positionTable, rowOf}
@@ -22,11 +22,11 @@ use Rattle.positions.specs.Dealing.{Dealing, dealtOut, Walked}
 use Rattle.kept.specs.View.{view}
 use Rattle.kept.proofs.Discharging.{positions-many, cash-security}
 use Rattle.kept.proofs.Auctions.{position-is, members-fit}
-use Rattle.laws.specs.Alls.{all-at}
 use Rattle.calls.specs.declared.Core.{Core}
 use Rattle.calls.specs.declared.Followed.{Followed}
 use Rattle.calls.specs.View.{Numbers, keptOf, bookOf, heldIn, Follows, Held, Discharging}
 use Rattle.calls.proofs.Started.{started-after}
+use Rattle.plain.proofs.Numbered.{nth-all}
 
 -- What is held, of a position by its number
 
@@ -41,8 +41,8 @@ module _ (b : Core) (a : Numbers) (h : Held b a) where
     member-fits : p .member ≤ 63
     member-fits =
         rw (e ∙ row-is n w)
-        (all-at (λ q. q .member ≤ 63) (heldIn (a .rows) (b .positions)) (n - 1) noPosition
-        (omega (arith, w .above, w .below, positions-many (positionTable (a .rows) (b .positions)) (h .valid .fits .positions)))
+        (nth-all noPosition (λ q. q .member ≤ 63) (heldIn (a .rows) (b .positions)) n
+        (rw (positions-many (positionTable (a .rows) (b .positions)) (h .valid .fits .positions)) w)
         (members-fit (keptOf b a) (h .valid)))
 
   -- what dealing out asks

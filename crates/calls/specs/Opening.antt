@@ -3,7 +3,7 @@ use Prim.Native.Nat.{ℕ}
 use mathlib.Core.Path.{_≡_}
 use mathlib.Core.List.{List}
 use Rattle.register.specs.Register.{registerRead}
-use Rattle.plain.specs.Book.{new}
+use Rattle.plain.specs.Book.{openingRead, new}
 use Rattle.calls.specs.declared.Opened.{Opened}
 use Rattle.calls.specs.View.{Numbers, bookOf, Held, Blank}
 
@@ -12,5 +12,5 @@ use Rattle.calls.specs.View.{Numbers, bookOf, Held, Blank}
 -- Where the bytes are refused the register read is the empty one, and the book of it is not held: no call takes it.
 pub record OpenedOn (bytes : List ℕ) (o : Opened) : Type 0 where
   pub number : o .number ≡ registerRead bytes .number
-  pub book : (a : Numbers) → Blank a → bookOf (o .core) a ≡ new (registerRead bytes .register)
+  pub book : (a : Numbers) → Blank a → bookOf (o .core) a ≡ new (openingRead bytes)
   pub held : o .number ≡ 0 → (a : Numbers) → Blank a → Held (o .core) a

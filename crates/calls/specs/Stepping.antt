@@ -1,24 +1,28 @@
 -- One event, by the call of its kind, on the lent tables and a sheet of 1,024 places.
-use Prim.Native.Nat.{ℕ, _≤_}
-use mathlib.Core.Path.{_≡_}
+use Prim.Native.Nat.{ℕ}
 use mathlib.Core.List.{List}
-use lib.ListN.{length, take}
+use Rattle.laws.specs.Limits.{PLACES}
 use Rattle.events.specs.declared.Event.{Event}
+use Rattle.events.specs.declared.Event.the-variants as event
 use Rattle.plain.specs.declared.Manner.{Manner}
+use Rattle.plain.specs.declared.Manner.the-variants.{Delivered, BoughtIn, Cash}
 use Rattle.plain.specs.declared.Outcome.{Outcome}
 use Rattle.plain.specs.Calls.{call}
-use Rattle.plain.specs.Refusals.{refusal}
-use Rattle.plain.specs.Histories.{next, pieces, quantity}
-use Rattle.pieces.specs.Sheet.{piecesOf}
-use Rattle.kept.specs.View.{answer}
 use Rattle.calls.specs.declared.Core.{Core}
-use Rattle.calls.specs.View.{Numbers, bookOf, Held}
+use Rattle.calls.specs.View.{Numbers, CalledOn}
 
--- what the event made of the core and the numbers, what it answered, and the pieces that it left on the sheet
-pub record Stepped (b : Core) (a : Numbers) (e : Event) (after : Core) (z : Numbers) (left : List ℕ) (o : Outcome) (n : ℕ) : Type 0 where
-  pub held : Held after z
-  pub book : bookOf after z ≡ next (bookOf b a) (call e 1024)
-  pub outcome : o ≡ answer (refusal (bookOf b a) (call e 1024)) (quantity (bookOf b a) (call e 1024))
-  pub pieces : ((m : Manner) × (take n (piecesOf m left) ≡ pieces (bookOf b a) (call e 1024)))
-  pub few : n ≤ 1024
-  pub places : length left ≡ 4096
+-- the manner in which an event discharges. One that is no discharge hands out no piece, so that its manner does not matter
+abbrev pub mannerOf : Event → Manner
+mannerOf (event.Trade t) = Delivered
+mannerOf (event.Price p) = Delivered
+mannerOf (event.Delivery d) = Delivered
+mannerOf (event.Attempt a) = Delivered
+mannerOf (event.Offer o) = Delivered
+mannerOf (event.Award a) = Delivered
+mannerOf (event.Confirm c) = BoughtIn
+mannerOf (event.Cash c) = Cash
+mannerOf event.Close = Delivered
+
+-- what the event makes of the core, the numbers and the sheet, and what it answers: its call on a sheet of 1,024 places
+abbrev pub Stepped : Core → Numbers → Event → List ℕ → Core → Numbers → List ℕ → Outcome → ℕ → Type 0
+Stepped b a e sheet after z left o n = CalledOn b a (call e PLACES) (mannerOf e) sheet after z left o n

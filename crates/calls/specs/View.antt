@@ -4,6 +4,7 @@ use mathlib.Core.Path.{_≡_}
 use mathlib.Core.Logic.{_≢_}
 use mathlib.Core.List.{List, []}
 use lib.ListN.{length, take, replicate}
+use Rattle.laws.specs.Limits.{MEMBERS, PLACES, SECURITIES}
 use Rattle.plain.specs.declared.Piece.{Piece}
 use Rattle.plain.specs.declared.Position.{Position}
 use Rattle.plain.specs.declared.Manner.{Manner}
@@ -12,8 +13,8 @@ use Rattle.plain.specs.Book as plain
 use Rattle.plain.specs.Calls.{Call}
 use Rattle.plain.specs.Refusals.{refusal}
 use Rattle.plain.specs.Histories.{next, pieces, quantity}
-use Rattle.plain.proofs.Accepted.{Within}
-use Rattle.plain.proofs.Invariants.{Deals}
+use Rattle.laws.specs.Asked.{Within}
+use Rattle.plain.specs.Invariants.{Deals}
 use Rattle.rows.specs.Rows.{rowsOf}
 use Rattle.pieces.specs.Sheet.{piecesOf}
 use Rattle.tables.specs.Tables as table
@@ -38,7 +39,7 @@ numbers rows trades awards counts = record { rows = rows; trades = trades; award
 abbrev pub keptOf : Core → Numbers → Kept
 keptOf b a =
     record {
-      register = b .register;
+      opening = b .opening;
       day = b .day;
       trades = tradeTable (a .trades) (b .trades) (b .netted);
       prices = b .prices;
@@ -59,7 +60,7 @@ heldIn rows count = table.positions (positionTable rows count)
 
 -- for each security a place before which no long of it is open
 pub record Started (count : ℕ) (starts : List ℕ) (items : List Position) : Type 0 where
-  pub places : length starts ≡ 32
+  pub places : length starts ≡ SECURITIES
   pub within : (s : ℕ) → plain.nth 0 starts s ≤ count
   pub closed : (s : ℕ) → 1 ≤ s → ClosedBefore s items (plain.nth 0 starts s)
 
@@ -105,7 +106,7 @@ pub record CalledBare (b : Core) (a : Numbers) (c : Call) (after : Core) (z : Nu
 pub record CalledOn (b : Core) (a : Numbers) (c : Call) (m : Manner) (sheet : List ℕ) (after : Core) (z : Numbers) (left : List ℕ) (o : Outcome) (n : ℕ) : Type 0 where
   pub called : Called b a c after z o (take n (piecesOf m left))
   pub places : length left ≡ 4096
-  pub few : n ≤ 1024
+  pub few : n ≤ PLACES
   pub kept : refusal (bookOf b a) c ≢ 0 → left ≡ sheet
 
 -- what dealing out q units of the short p, of number n, asks of the lent tables, the sheet and what is followed
@@ -113,8 +114,8 @@ pub record Discharging (day : ℕ) (rows : List ℕ) (count : ℕ) (counts sheet
   pub dealing : Dealing (positionTable rows count) day n q
   pub deals : ((b : plain.Book) × (b .positions ≡ heldIn rows count) × Deals b m n q (dealtOut (positionTable rows count) day n q m))
   pub own : p ≡ rowOf rows n
-  pub security : Within 1 32 (p .security)
-  pub member : p .member ≤ 63
+  pub security : Within 1 SECURITIES (p .security)
+  pub member : p .member ≤ MEMBERS
   pub some : 0 < q
   pub follows : Follows day rows count counts f
   pub rows-length : length rows ≡ 10240
@@ -135,8 +136,8 @@ pub record Taken (b : Core) (a : Numbers) (c : Call) : Type 0 where
 -- what a cash settlement of position n goes by: the position, and the class and the latest price of its security
 pub record CashTerms (b : Core) (rows : List ℕ) (n : ℕ) (p : Position) (class latest : ℕ) : Type 0 where
   pub own : p ≡ rowOf rows n
-  pub classed : class ≡ plain.nth 0 (b .register .classes) (p .security)
-  pub priced : latest ≡ plain.nth 0 (b .prices .latest) (p .security)
+  pub classed : class ≡ plain.nth 0 (b .opening .register .classes) (p .security)
+  pub priced : latest ≡ plain.nth plain.noPrice (b .prices .latest) (p .security) .price
 
 -- the numbers that are lent with a new book: no short is late, and the tables have their places
 pub record Blank (a : Numbers) : Type 0 where

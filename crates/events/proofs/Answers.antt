@@ -5,6 +5,7 @@ use mathlib.Core.Path.{_≡_, refl, ap, ap₂, sym, _∙_}
 use mathlib.Core.List.{List}
 use lib.ListN.{length, getD, take}
 use borrow.Author.Tests.{lt-ltb, le-ltb, ne-eqb}
+use Rattle.laws.specs.Limits.{EVENTS}
 use Rattle.laws.specs.Lists.{All}
 use Rattle.laws.specs.Parts.{padded, take-padded}
 use Rattle.laws.specs.Alls.{all-places}
@@ -15,17 +16,17 @@ use Rattle.events.specs.Passing.{Passing, passing, passing-same, events-
 
 -- ---- the refusal of writing
 
-pub many : (n room : ℕ) → 2048 < n → writingRefusal n room ≡ 5
+pub many : (n room : ℕ) → EVENTS < n → writingRefusal n room ≡ 5
 unfolding writingRefusal
-many n room h = rw (lt-ltb 2048 n h)
+many n room h = rw (lt-ltb EVENTS n h)
 
-pub short : (n room : ℕ) → n ≤ 2048 → room < size n → writingRefusal n room ≡ 5
+pub short : (n room : ℕ) → n ≤ EVENTS → room < size n → writingRefusal n room ≡ 5
 unfolding writingRefusal
-short n room h k = rw (le-ltb 2048 n h, lt-ltb room (size n) k)
+short n room h k = rw (le-ltb EVENTS n h, lt-ltb room (size n) k)
 
-pub enough : (n room : ℕ) → n ≤ 2048 → size n ≤ room → writingRefusal n room ≡ 0
+pub enough : (n room : ℕ) → n ≤ EVENTS → size n ≤ room → writingRefusal n room ≡ 0
 unfolding writingRefusal
-enough n room h k = rw (le-ltb 2048 n h, le-ltb room (size n) k)
+enough n room h k = rw (le-ltb EVENTS n h, le-ltb room (size n) k)
 
 -- ---- a refusal that is not 0
 
@@ -45,19 +46,19 @@ refused-file file room h = rw (ne-eqb (refusal file) 0 h)
 
 pub passed-file : (file : List ℕ) (room : ℕ) → refusal file ≡ 0 → copyingRefusal file room ≡ writingRefusal (count file) room
 unfolding copyingRefusal writingRefusal
-passed-file file room e = rw (e, le-ltb 2048 (count file) (passing file e .few))
+passed-file file room e = rw (e, le-ltb EVENTS (count file) (passing file e .few))
 
 -- the events read from a file that passes are written as the same bytes
-copied : (file : List ℕ) → All (λ b. b < 256) file → refusal file ≡ 0 → fileOf (take (count file) (padded Event.Close 2048 (eventsOf file))) ≡ file
+copied : (file : List ℕ) → All (λ b. b < 256) file → refusal file ≡ 0 → fileOf (take (count file) (padded Event.Close EVENTS (eventsOf file))) ≡ file
 copied file small e =
     let p : Passing file = passing file e in
     let n : length (eventsOf file) ≡ count file = events-counted file (p .long) in
-    ap (λ (k : ℕ). fileOf (take k (padded Event.Close 2048 (eventsOf file)))) (sym n)
-    ∙ ap fileOf (take-padded Event.Close 2048 (eventsOf file) (omega (arith, p .few)))
+    ap (λ (k : ℕ). fileOf (take k (padded Event.Close EVENTS (eventsOf file)))) (sym n)
+    ∙ ap fileOf (take-padded Event.Close EVENTS (eventsOf file) (omega (arith, p .few)))
     ∙ passing-same file small e
 
 -- writing the events that were read is copying the file
-module _ (file page : List ℕ) (events : List Event) (n : ℕ) (small : (i : ℕ) → getD file i 0 < 256) (passes : refusal file ≡ 0) (number : n ≡ count file) (read : events ≡ padded Event.Close 2048 (eventsOf file)) where
+module _ (file page : List ℕ) (events : List Event) (n : ℕ) (small : (i : ℕ) → getD file i 0 < 256) (passes : refusal file ≡ 0) (number : n ≡ count file) (read : events ≡ padded Event.Close EVENTS (eventsOf file)) where
   pub copy-answer : answer (writingRefusal n (length page)) (size n) ≡ answer (copyingRefusal file (length page)) (length file)
   copy-answer = rw (passed-file file (length page) passes, number, passing file passes .long)
 

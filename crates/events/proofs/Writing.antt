@@ -1,38 +1,46 @@
 -- A page on which the bytes of a body, the kind bytes and the bodies are written one after the other.
 use Prim.Native.Nat.{ℕ, _+_, _*_, _≤_, _<_}
-use native.Mathlib.Nat.{mul-zero, mul-suc, add-comm}
+use native.Mathlib.Nat.{add-zero, mul-zero, mul-suc, add-comm}
 use native.Mathlib.Numerals.{add-one}
 use native.Mathlib.Omega.{arith}
-use mathlib.Core.Path.{_≡_, refl, ap, ap₂, sym, _∙_}
+use mathlib.Core.Path.{_≡_, refl, ap, ap₂, sym, subst, _∙_}
 use mathlib.Core.List.{List, [], _∷_, _++_, map, append-nil}
 use lib.ListN.{length, getD, take, drop, set, length-append, length-map}
 use lib.Seq.{sets, length-sets, take-suc, length-take-le}
 use Rattle.laws.specs.Words.{bytes16, bytes32}
-use Rattle.laws.specs.Lists.{each}
+use Rattle.laws.specs.Limits.{EVENTS}
+use Rattle.laws.specs.Lists.{All, each}
+use Rattle.laws.specs.Alls.{all-append}
 use Rattle.laws.specs.Listed.{each-append}
 use Rattle.laws.specs.Parts.{sets-then, sets-front}
 use Rattle.events.specs.declared.Event.{Event}
 use Rattle.events.specs.declared.Fields.{Fields}
-use Rattle.events.specs.Body.{kindOf, body, bodyOf}
-use Rattle.events.specs.File.{size, fileOf}
-use Rattle.events.specs.Inverse.{length-file}
+use Rattle.events.specs.Layout.{COUNT-AT, WIDTH-AT, HEADER, BODY, SUBJECT-AT, FIRST-AT, SECOND-AT, QUANTITY-AT, PRICE-AT, LAST-AT}
+use Rattle.events.specs.Body.{kindOf, fieldsOf, body, bodyOf, Fits}
+use Rattle.events.specs.File.{size, headerOf, fileOf, ReadsBack}
+use Rattle.events.specs.Inverse.{length-file, told, page-reads-back}
 
 -- the six stores of a body, in their order
-pub body-written : (l l₁ l₂ l₃ l₄ : List ℕ) (at : ℕ) (f : Fields) → l₁ ≡ sets l at (bytes16 (f .subject))
-    → l₂ ≡ sets (set (set l₁ (at + 2) (f .first)) (at + 3) (f .second)) (at + 4) (bytes32 (f .quantity))
-    → l₃ ≡ sets l₂ (at + 8) (bytes32 (f .price))
-    → l₄ ≡ sets l₃ (at + 12) (bytes32 0)
+pub body-written : (l l₁ l₂ l₃ l₄ : List ℕ) (at : ℕ) (f : Fields) → l₁ ≡ sets l (at + SUBJECT-AT) (bytes16 (f .subject))
+    → l₂ ≡ sets (set (set l₁ (at + FIRST-AT) (f .first)) (at + SECOND-AT) (f .second)) (at + QUANTITY-AT) (bytes32 (f .quantity))
+    → l₃ ≡ sets l₂ (at + PRICE-AT) (bytes32 (f .price))
+    → l₄ ≡ sets l₃ (at + LAST-AT) (bytes32 0)
     → l₄ ≡ sets l at (body f)
 unfolding body
 body-written l l₁ l₂ l₃ l₄ at f e₁ e₂ e₃ e₄ =
     let s : List ℕ = bytes16 (f .subject) in
     let q : List ℕ = bytes32 (f .quantity) in
     let p : List ℕ = bytes32 (f .price) in
-    let a = sets-then l l₁ (set l₁ (at + 2) (f .first)) s (f .first ∷ []) at (at + 2) e₁ refl (omega arith) in
-    let b = sets-then l (set l₁ (at + 2) (f .first)) (set (set l₁ (at + 2) (f .first)) (at + 3) (f .second)) (s ++ (f .first ∷ [])) (f .second ∷ []) at (at + 3) a refl (omega arith) in
-    let c = sets-then l (set (set l₁ (at + 2) (f .first)) (at + 3) (f .second)) l₂ (s ++ (f .first ∷ []) ++ (f .second ∷ [])) q at (at + 4) b e₂ (omega arith) in
-    let d = sets-then l l₂ l₃ (s ++ (f .first ∷ []) ++ (f .second ∷ []) ++ q) p at (at + 8) c e₃ (omega arith) in
-    sets-then l l₃ l₄ (s ++ (f .first ∷ []) ++ (f .second ∷ []) ++ q ++ p) (bytes32 0) at (at + 12) d e₄ (omega arith)
+    let a = sets-then l l₁ (set l₁ (at + FIRST-AT) (f .first)) s (f .first ∷ []) at (at + FIRST-AT) (e₁ ∙ ap (λ (k : ℕ). sets l k s) (add-zero at)) refl (omega arith) in
+    let b = sets-then l (set l₁ (at + FIRST-AT) (f .first)) (set (set l₁ (at + FIRST-AT) (f .first)) (at + SECOND-AT) (f .second)) (s ++ (f .first ∷ [])) (f .second ∷ []) at (at + SECOND-AT) a refl (omega arith) in
+    let c = sets-then l (set (set l₁ (at + FIRST-AT) (f .first)) (at + SECOND-AT) (f .second)) l₂ (s ++ (f .first ∷ []) ++ (f .second ∷ [])) q at (at + QUANTITY-AT) b e₂ (omega arith) in
+    let d = sets-then l l₂ l₃ (s ++ (f .first ∷ []) ++ (f .second ∷ []) ++ q) p at (at + PRICE-AT) c e₃ (omega arith) in
+    sets-then l l₃ l₄ (s ++ (f .first ∷ []) ++ (f .second ∷ []) ++ q ++ p) (bytes32 0) at (at + LAST-AT) d e₄ (omega arith)
+
+-- an event's fields, written, are its body, as they stand in bytes that its kind uses
+pub event-written : (page next : List ℕ) (at : ℕ) (e : Event) (f : Fields) → next ≡ sets page at (body f) → f ≡ fieldsOf e → next ≡ sets page at (bodyOf e)
+event-written page next at e f p q =
+    p ∙ ap (λ (x : Fields). sets page at (body x)) q ∙ ap (sets page at) (sym (told e .used))
 
 -- the kind bytes as parts of one byte
 abbrev pub kindByte : Event → List ℕ
@@ -63,20 +71,34 @@ module _ {A : Type 0} (part : A → List ℕ) (width : ℕ) (wide : (x : A) → 
       let same : i ≡ n = omega arith in
       e ∙ ap (λ (m : ℕ). sets page₀ at (each part (take m xs))) same
 
+-- P holds of one more element
+pub all-more : {A : Type 0} (P : A → Type 0) (xs : List A) (i : ℕ) (d : A) → i < length xs → All P (take i xs) → P (getD xs i d) → All P (take (i + 1) xs)
+all-more P xs i d h before here =
+    rw (add-one i, take-suc xs i d h) (all-append P (take i xs) (getD xs i d ∷ []) before (here, tt))
+
+pub all-of-them : {A : Type 0} (P : A → Type 0) (xs : List A) {i n : ℕ} → All P (take i xs) → i ≤ n → n ≤ i → All P (take n xs)
+all-of-them P xs {i} {n} before h k =
+    let same : i ≡ n = omega arith in
+    subst (λ (m : ℕ). All P (take m xs)) same before
+
 pub same-long : (page₀ page vs : List ℕ) (at : ℕ) → page ≡ sets page₀ at vs → length page ≡ length page₀
 same-long page₀ page vs at e = ap length e ∙ length-sets page₀ at vs
 
 -- ---- the whole file
 
-whole : (es : List Event) (n : ℕ) → length es ≡ n → bytes16 n ++ bytes16 16 ++ map kindOf es ++ each bodyOf es ≡ fileOf es
+whole : (es : List Event) (n : ℕ) → length es ≡ n → headerOf n ++ map kindOf es ++ each bodyOf es ≡ fileOf es
 unfolding fileOf
-whole es n long = ap (λ (k : ℕ). bytes16 k ++ bytes16 16 ++ map kindOf es ++ each bodyOf es) (sym long)
+whole es n long = ap (λ (k : ℕ). headerOf k ++ map kindOf es ++ each bodyOf es) (sym long)
 
 pub file-written : (l l₁ l₂ l₃ l₄ : List ℕ) (es : List Event) (n : ℕ) → length es ≡ n → size n ≤ length l
-    → l₁ ≡ sets l 0 (bytes16 n) → l₂ ≡ sets l₁ 2 (bytes16 16) → l₃ ≡ sets l₂ 4 (map kindOf es) → l₄ ≡ sets l₃ (4 + n) (each bodyOf es)
+    → l₁ ≡ sets l COUNT-AT (bytes16 n) → l₂ ≡ sets l₁ WIDTH-AT (bytes16 BODY) → l₃ ≡ sets l₂ HEADER (map kindOf es) → l₄ ≡ sets l₃ (HEADER + n) (each bodyOf es)
     → l₄ ≡ fileOf es ++ drop (length (fileOf es)) l
 file-written l l₁ l₂ l₃ l₄ es n long room e₁ e₂ e₃ e₄ =
-    let a = sets-then l l₁ l₂ (bytes16 n) (bytes16 16) 0 2 e₁ e₂ refl in
-    let b = sets-then l l₂ l₃ (bytes16 n ++ bytes16 16) (map kindOf es) 0 4 a e₃ refl in
-    let c = sets-then l l₃ l₄ (bytes16 n ++ bytes16 16 ++ map kindOf es) (each bodyOf es) 0 (4 + n) b e₄ (omega (arith, length-map es kindOf)) in
+    let a = sets-then l l₁ l₂ (bytes16 n) (bytes16 BODY) 0 WIDTH-AT e₁ e₂ refl in
+    let b = sets-then l l₂ l₃ (headerOf n) (map kindOf es) 0 HEADER a e₃ refl in
+    let c = sets-then l l₃ l₄ (headerOf n ++ map kindOf es) (each bodyOf es) 0 (HEADER + n) b e₄ (omega (arith, length-map es kindOf)) in
     c ∙ ap (sets l 0) (whole es n long) ∙ sets-front l (fileOf es) (omega (arith, length-file es))
+
+-- the page reads back as the events that were written
+pub read-back : (es : List Event) (page rest : List ℕ) (n : ℕ) → length es ≡ n → n ≤ EVENTS → All Fits es → page ≡ fileOf es ++ rest → ReadsBack es (take (size n) page)
+read-back es page rest n long few fit e = rw (e, ← long) (page-reads-back es rest (omega arith) fit)

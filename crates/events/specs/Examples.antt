@@ -3,7 +3,8 @@ use Prim.Native.Nat.{ℕ}
 use mathlib.Core.Path.{_≡_, refl}
 use mathlib.Core.List.{List, [], _∷_, _++_}
 use Rattle.events.specs.declared.Event.{Event}
-use Rattle.events.specs.Body.{kindOf, fieldsOf, body, fieldsAt, eventFrom, usesOf, spareSet}
+use Rattle.events.specs.Layout.{marksOf}
+use Rattle.events.specs.Body.{kindOf, fieldsOf, body, fieldsAt, eventFrom, spareIn, masked}
 use Rattle.events.specs.File.{refusal, fileOf, eventsOf}
 
 -- "member 1 sells to member 2 100 units of security 1 at 1,000; close; close; deliver 100 of position 1"
@@ -31,11 +32,11 @@ file : List ℕ
 file = header ++ (1 ∷ 9 ∷ 9 ∷ 3 ∷ []) ++ trade ++ blank ++ blank ++ delivery
 
 written : fileOf events ≡ file
-unfolding events file header trade blank delivery fileOf kindOf fieldsOf body
+unfolding events file header trade blank delivery fileOf kindOf fieldsOf body marksOf masked
 written = refl
 
 passes : refusal file ≡ 0
-unfolding file header trade blank delivery refusal usesOf spareSet
+unfolding file header trade blank delivery refusal marksOf spareIn
 passes = refl
 
 read : eventsOf file ≡ events
@@ -44,7 +45,7 @@ read = refl
 
 -- a length that is not the count's, and a count over a width that is not 16
 longer : refusal (file ++ (0 ∷ [])) ≡ 5
-unfolding file header trade blank delivery refusal usesOf spareSet
+unfolding file header trade blank delivery refusal marksOf spareIn
 longer = refl
 
 wider : refusal (0 ∷ 0 ∷ 17 ∷ 0 ∷ []) ≡ 5
@@ -57,9 +58,9 @@ empty = refl
 
 -- of one event the kind comes first; of two, the first event does
 no-kind : refusal (1 ∷ 0 ∷ 16 ∷ 0 ∷ 10 ∷ trade) ≡ 6
-unfolding trade refusal usesOf spareSet
+unfolding trade refusal marksOf spareIn
 no-kind = refl
 
 spare-first : refusal (2 ∷ 0 ∷ 16 ∷ 0 ∷ 3 ∷ 10 ∷ trade ++ blank) ≡ 7
-unfolding trade blank refusal usesOf spareSet
+unfolding trade blank refusal marksOf spareIn
 spare-first = refl

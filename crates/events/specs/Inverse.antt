@@ -4,29 +4,31 @@ use Prim.Native.Nat.{ℕ, zero, suc, _*_, _≤_, _%_, _/_}
 use native.Mathlib.Omega.{arith}
 use mathlib.Core.Path.{_≡_, refl, ap, ap₂, sym, _∙_}
 use mathlib.Core.List.{List, [], _∷_, _++_, map}
+use mathlib.Core.Bool.{true}
 use lib.Dec.{eqb, eqb·suc-zero}
 use lib.ListN.{length, take, length-append, length-map}
 use lib.Seq.{take-at, drop-at, drop-drop}
 use borrow.Author.Tests.{le-ltb, eq-eqb}
+use Rattle.laws.specs.Limits.{EVENTS}
 use Rattle.laws.specs.Lists.{All, each, only}
 use Rattle.laws.specs.Refusals.{first, first-past}
 use Rattle.laws.specs.Words.{word16, word32, word16At}
 use Rattle.laws.specs.WordLaws.{word16-bytes, word32-bytes}
 use Rattle.events.specs.declared.Event.{Event}
 use Rattle.events.specs.declared.Fields.{Fields}
-use Rattle.events.specs.Body.{kindOf, fieldsOf, body, bodyOf, fieldsAt, eventFrom, eventOf, usesOf, spareSet, InWidth, Fits}
-use Rattle.events.specs.File.{count, size, kindsIn, bodiesIn, paired, eventsOf, reasons, checks, refusal, fileOf, answer, numberOf, quantityOf}
+use Rattle.events.specs.Layout.{HEADER, BODY, WIDTH-AT, marksOf}
+use Rattle.events.specs.Body.{kindOf, isKind, fieldsOf, body, masked, bodyOf, fieldsAt, eventFrom, eventRead, InWidth, Fits}
+use Rattle.events.specs.Spare.{length-masked, masked-clear}
+use Rattle.events.specs.File.{count, size, kindsIn, bodiesIn, paired, eventsOf, reasons, checks, refusal, fileOf, answer, numberOf, quantityOf, ReadsBack}
 
 -- ---- lengths
 
-pub length-body : (f : Fields) → length (body f) ≡ 16
-unfolding body
-length-body f = refl
+pub length-body : (e : Event) → length (bodyOf e) ≡ BODY
+length-body e = length-masked (marksOf (kindOf e)) (body (fieldsOf e))
 
-pub length-bodies : (es : List Event) → length (each bodyOf es) ≡ 16 * length es
+pub length-bodies : (es : List Event) → length (each bodyOf es) ≡ BODY * length es
 length-bodies [] = refl
-length-bodies (e ∷ es) =
-    omega (arith, length-append (bodyOf e) (each bodyOf es), length-body (fieldsOf e), length-bodies es)
+length-bodies (e ∷ es) = omega (arith, length-append (bodyOf e) (each bodyOf es), length-body e, length-bodies es)
 
 pub length-file : (es : List Event) → length (fileOf es) ≡ size (length es)
 unfolding fileOf
@@ -44,49 +46,51 @@ read-fields f h =
     let p : word32 (f .price % 256) (f .price / 256 % 256) (f .price / 65536 % 256) (f .price / 16777216 % 256) ≡ f .price = word32-bytes (f .price) (h .price) in
     λ i. record { subject = s i; first = f .first; second = f .second; quantity = q i; price = p i }
 
-same-event : (e : Event) → eventFrom (kindOf e) (fieldsOf e) ≡ e
-unfolding eventFrom kindOf fieldsOf
-same-event (Event.Trade t) = refl
-same-event (Event.Price p) = refl
-same-event (Event.Delivery d) = refl
-same-event (Event.Attempt a) = refl
-same-event (Event.Offer o) = refl
-same-event (Event.Award a) = refl
-same-event (Event.Confirm c) = refl
-same-event (Event.Cash c) = refl
-same-event Event.Close = refl
+-- what an event's kind and fields say of it: the kind is one, the event is the one of this kind with these fields, and
+-- its fields stand in bytes that its kind uses
+pub record Told (e : Event) : Type 0 where
+  pub kind : isKind (kindOf e) ≡ true
+  pub same : eventFrom (kindOf e) (fieldsOf e) ≡ e
+  pub used : masked (marksOf (kindOf e)) (body (fieldsOf e)) ≡ body (fieldsOf e)
 
-read-event : (e : Event) → Fits e → eventOf (kindOf e) (bodyOf e) ≡ e
-read-event e h = ap (eventFrom (kindOf e)) (read-fields (fieldsOf e) h) ∙ same-event e
+-- the cases of `Event` are gone through here alone; what else is said of a written event follows from these three
+pub told : (e : Event) → Told e
+unfolding eventFrom kindOf fieldsOf marksOf masked body
+told (Event.Trade t) = record { kind = refl; same = refl; used = refl }
+told (Event.Price p) = record { kind = refl; same = refl; used = refl }
+told (Event.Delivery d) = record { kind = refl; same = refl; used = refl }
+told (Event.Attempt a) = record { kind = refl; same = refl; used = refl }
+told (Event.Offer o) = record { kind = refl; same = refl; used = refl }
+told (Event.Award a) = record { kind = refl; same = refl; used = refl }
+told (Event.Confirm c) = record { kind = refl; same = refl; used = refl }
+told (Event.Cash c) = record { kind = refl; same = refl; used = refl }
+told Event.Close = record { kind = refl; same = refl; used = refl }
 
--- the kind of a written event is one of the nine, and its spare bytes are zero
+read-event : (e : Event) → Fits e → eventRead (kindOf e) (bodyOf e) ≡ e
+read-event e h =
+    ap (eventRead (kindOf e)) (told e .used)
+    ∙ ap (eventFrom (kindOf e)) (read-fields (fieldsOf e) h)
+    ∙ told e .same
+
+-- the kind of a written event is a kind, and its spare bytes are zero, whatever the table of used bytes is
 clean : (e : Event) → first (reasons (kindOf e) (bodyOf e)) ≡ 0
-unfolding kindOf fieldsOf body usesOf spareSet
-clean (Event.Trade t) = refl
-clean (Event.Price p) = refl
-clean (Event.Delivery d) = refl
-clean (Event.Attempt a) = refl
-clean (Event.Offer o) = refl
-clean (Event.Award a) = refl
-clean (Event.Confirm c) = refl
-clean (Event.Cash c) = refl
-clean Event.Close = refl
+clean e = rw (told e .kind, masked-clear (marksOf (kindOf e)) (body (fieldsOf e)))
 
 -- ---- a list of events, written and read
 
 clean-all : (es : List Event) → first (checks (map kindOf es) (each bodyOf es)) ≡ 0
 clean-all [] = refl
 clean-all (e ∷ es) =
-    rw (take-at (bodyOf e) (each bodyOf es) 16 (length-body (fieldsOf e)), drop-at (bodyOf e) (each bodyOf es) 16 (length-body (fieldsOf e)))
+    rw (take-at (bodyOf e) (each bodyOf es) BODY (length-body e), drop-at (bodyOf e) (each bodyOf es) BODY (length-body e))
     (first-past (reasons (kindOf e) (bodyOf e)) (checks (map kindOf es) (each bodyOf es)) refl (clean e) ∙ clean-all es)
 
 read-all : (es : List Event) → All Fits es → paired (map kindOf es) (each bodyOf es) ≡ es
 read-all [] h = refl
 read-all (e ∷ es) h =
-    rw (take-at (bodyOf e) (each bodyOf es) 16 (length-body (fieldsOf e)), drop-at (bodyOf e) (each bodyOf es) 16 (length-body (fieldsOf e)))
+    rw (take-at (bodyOf e) (each bodyOf es) BODY (length-body e), drop-at (bodyOf e) (each bodyOf es) BODY (length-body e))
     (ap₂ (λ (x : Event) (xs : List Event). x ∷ xs) (read-event e (h .0)) (read-all es (h .1)))
 
-count-file : (es : List Event) → length es ≤ 2048 → count (fileOf es) ≡ length es
+count-file : (es : List Event) → length es ≤ EVENTS → count (fileOf es) ≡ length es
 unfolding fileOf
 count-file es h = word16-bytes (length es) (omega arith)
 
@@ -97,21 +101,22 @@ kinds-file es = take-at (map kindOf es) (each bodyOf es) (length es) (length-map
 bodies-file : (es : List Event) → bodiesIn (fileOf es) (length es) ≡ each bodyOf es
 unfolding fileOf
 bodies-file es =
-    sym (drop-drop (length es) 4 (fileOf es)) ∙ drop-at (map kindOf es) (each bodyOf es) (length es) (length-map es kindOf)
+    sym (drop-drop (length es) HEADER (fileOf es)) ∙ drop-at (map kindOf es) (each bodyOf es) (length es) (length-map es kindOf)
 
-width-file : (es : List Event) → word16At (fileOf es) 2 ≡ 16
+width-file : (es : List Event) → word16At (fileOf es) WIDTH-AT ≡ BODY
 unfolding fileOf
 width-file es = refl
 
 -- a file of at most 2,048 events passes
-pub written-passes : (es : List Event) → length es ≤ 2048 → refusal (fileOf es) ≡ 0
+pub written-passes : (es : List Event) → length es ≤ EVENTS → refusal (fileOf es) ≡ 0
 unfolding refusal
 written-passes es h =
-    rw (count-file es h, width-file es, kinds-file es, bodies-file es, le-ltb 2048 (length es) h, eq-eqb (length (fileOf es)) (size (length es)) (length-file es))
+    rw (count-file es h, width-file es, kinds-file es, bodies-file es, le-ltb EVENTS (length es) h, eq-eqb (length (fileOf es)) (size (length es)) (length-file es))
     (clean-all es)
 
--- and is read as the events that were written
-pub written-read : (es : List Event) → length es ≤ 2048 → All Fits es → eventsOf (fileOf es) ≡ es
+-- and is read as the events that were written, where they fit their fields; those that a machine holds do, so that the
+-- contract of `write_file` says it with no condition
+pub written-read : (es : List Event) → length es ≤ EVENTS → All Fits es → eventsOf (fileOf es) ≡ es
 unfolding eventsOf
 written-read es h fit = rw (count-file es h, kinds-file es, bodies-file es) (read-all es fit)
 
@@ -119,11 +124,12 @@ written-read es h fit = rw (count-file es h, kinds-file es, bodies-file es) (rea
 pub written-front : (es : List Event) (rest : List ℕ) → take (size (length es)) (fileOf es ++ rest) ≡ fileOf es
 written-front es rest = take-at (fileOf es) rest (size (length es)) (length-file es)
 
-pub page-passes : (es : List Event) (rest : List ℕ) → length es ≤ 2048 → refusal (take (size (length es)) (fileOf es ++ rest)) ≡ 0
-page-passes es rest h = ap refusal (written-front es rest) ∙ written-passes es h
-
-pub page-read : (es : List Event) (rest : List ℕ) → length es ≤ 2048 → All Fits es → eventsOf (take (size (length es)) (fileOf es ++ rest)) ≡ es
-page-read es rest h fit = ap eventsOf (written-front es rest) ∙ written-read es h fit
+-- a page that begins with the file of these events reads back as they are
+pub page-reads-back : (es : List Event) (rest : List ℕ) → length es ≤ EVENTS → All Fits es → ReadsBack es (take (size (length es)) (fileOf es ++ rest))
+page-reads-back es rest h fit = record {
+  passes = ap refusal (written-front es rest) ∙ written-passes es h;
+  read = ap eventsOf (written-front es rest) ∙ written-read es h fit;
+}
 
 -- an answer has the refusal's number, and the bytes written as its quantity where there is none
 pub answer-number : (n bytes : ℕ) → numberOf (answer n bytes) ≡ n

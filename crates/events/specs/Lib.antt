@@ -1,5 +1,7 @@
+pub mod Layout
 pub mod Body
 pub mod File
 pub mod Examples
+pub mod Spare
 pub mod Inverse
 pub mod Passing

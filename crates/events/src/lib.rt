@@ -2,18 +2,19 @@
 // Document 01, 'Event files and the player'.
 
 ghost use mathlib.Core.Path.{_≡_};
-ghost use mathlib.Core.Bool.{not, _&&_};
 ghost use mathlib.Core.List.{map};
 ghost use Prim.Native.Nat.{_+_, _≤_, _<_, min};
 ghost use lib.ListN.{length, getD, take, drop, replicate};
 ghost use lib.Seq.{sets};
-ghost use Rattle.laws.specs.Lists.{each};
+ghost use Rattle.laws.specs.Limits.{EVENTS};
+ghost use Rattle.laws.specs.Lists.{All, each};
 ghost use Rattle.laws.specs.Parts.{padded};
 ghost use Rattle.laws.specs.Refusals;
 ghost use Rattle.laws.specs.Words.{word16At, word32At, bytes16, bytes32};
-ghost use Rattle.laws.specs.WordLaws.{nonzero};
-ghost use Rattle.events.specs.Body.{body, bodyOf, eventFrom, fields, fieldsAt, fieldsOf, kindOf, spareWords, use-of, usesOf};
-ghost use Rattle.events.specs.File.{answer, bodiesIn, checks, copyingRefusal, count, eventsOf, fileOf, kindsIn, pageAfter, reasons, refusal, size, writingRefusal};
+ghost use Rattle.events.specs.Layout.{BODY, HEADER, marksOf};
+ghost use Rattle.events.specs.Body.{Fits, InWidth, body, bodyOf, eventFrom, fields, fieldsAt, fieldsOf, kindOf, spareByte, spareIn};
+ghost use Rattle.events.specs.File.{ReadsBack, answer, bodiesIn, checks, copyingRefusal, count, eventsOf, fileOf, kindsIn, numberOf, pageAfter, quantityOf, reasons, refusal, size, writingRefusal};
+use laws::EVENTS;
 
 // A member sells to another a quantity of a security.
 pub struct Trade {
@@ -87,15 +88,6 @@ pub struct Fields {
     pub price: u32,
 }
 
-// Which of those fields a kind of event has a use for. The others are spare.
-pub struct Uses {
-    pub subject: bool,
-    pub first: bool,
-    pub second: bool,
-    pub quantity: bool,
-    pub price: bool,
-}
-
 // What writing answers: the bytes written, or the number of the refusal.
 pub enum Written {
     Done(u32),
@@ -109,8 +101,52 @@ const KIND: u8 = 6;
 
 const SPARE: u8 = 7;
 
-// The most events that a file has.
-const MOST_EVENTS: usize = 2048;
+// The layout of a file, as `specs/Layout.antt` has it: where the two words of the header stand, how long it is, the
+// bytes of a body, and those of an event, its kind byte and its body.
+const COUNT_AT: usize = 0;
+
+const WIDTH_AT: usize = 2;
+
+const HEADER: usize = 4;
+
+const BODY: usize = 16;
+
+const EVENT_BYTES: usize = 1 + BODY;
+
+// The body's width as the header has it.
+const WIDTH: u16 = BODY as u16;
+
+const KINDS: u8 = 9;
+
+// Where the fields stand in a body.
+const SUBJECT_AT: usize = 0;
+
+const FIRST_AT: usize = 2;
+
+const SECOND_AT: usize = 3;
+
+const QUANTITY_AT: usize = 4;
+
+const PRICE_AT: usize = 8;
+
+const LAST_AT: usize = 12;
+
+// The bytes of a body that a kind uses, marked 1, a row for each number from 0, which is no kind, to 9.
+const USED: [[u8; BODY]; 1 + KINDS as usize] = [
+    [0, 0, 0, 0, 0, 0, 0, 0, 0, 0, 0, 0, 0, 0, 0, 0],
+    // 1 trade, 2 price, 3 delivery
+    [1, 1, 1, 1, 1, 1, 1, 1, 1, 1, 1, 1, 0, 0, 0, 0],
+    [1, 1, 0, 0, 0, 0, 0, 0, 1, 1, 1, 1, 0, 0, 0, 0],
+    [1, 1, 0, 0, 1, 1, 1, 1, 0, 0, 0, 0, 0, 0, 0, 0],
+    // 4 attempt, 5 offer, 6 award
+    [1, 1, 0, 0, 0, 0, 0, 0, 0, 0, 0, 0, 0, 0, 0, 0],
+    [1, 1, 1, 0, 1, 1, 1, 1, 1, 1, 1, 1, 0, 0, 0, 0],
+    [1, 1, 0, 0, 0, 0, 0, 0, 0, 0, 0, 0, 0, 0, 0, 0],
+    // 7 confirm, 8 cash, 9 close
+    [1, 1, 0, 0, 0, 0, 0, 0, 0, 0, 0, 0, 0, 0, 0, 0],
+    [1, 1, 0, 0, 0, 0, 0, 0, 0, 0, 0, 0, 0, 0, 0, 0],
+    [0, 0, 0, 0, 0, 0, 0, 0, 0, 0, 0, 0, 0, 0, 0, 0],
+];
 
 // The byte at a place; a byte past the end counts 0.
 fn byte_at(bytes: &[u8], at: usize) -> u8
@@ -140,6 +176,7 @@ fn word32_at(bytes: &[u8], at: usize) -> u32
 
 fn fields_with(subject: u16, first: u8, second: u8, quantity: u32, price: u32) -> Fields
     ensures { λ r. ⌜ r ≡ fields subject first second quantity price ⌝ }
+    ensures { λ r. ⌜ InWidth r ⌝ }
 {
     Fields {
         subject,
@@ -155,11 +192,11 @@ fn fields_at(bytes: &[u8], at: usize) -> Fields
     requires { ⌜ at < 2147483648 ⌝ }
     ensures { λ r. ⌜ r ≡ fieldsAt (now (bytes .entry)) at ⌝ }
 {
-    let subject = word16_at(bytes, at);
-    let first = byte_at(bytes, at + 2);
-    let second = byte_at(bytes, at + 3);
-    let quantity = word32_at(bytes, at + 4);
-    let price = word32_at(bytes, at + 8);
+    let subject = word16_at(bytes, at + SUBJECT_AT);
+    let first = byte_at(bytes, at + FIRST_AT);
+    let second = byte_at(bytes, at + SECOND_AT);
+    let quantity = word32_at(bytes, at + QUANTITY_AT);
+    let price = word32_at(bytes, at + PRICE_AT);
     fields_with(subject, first, second, quantity, price)
 }
 
@@ -167,38 +204,34 @@ fn fields_at(bytes: &[u8], at: usize) -> Fields
 fn event_from(kind: u8, f: Fields) -> Event
     ensures { λ r. ⌜ r ≡ eventFrom kind f ⌝ }
 {
+    let subject = f.subject;
     match kind {
         1 => Event::Trade(Trade {
             seller: f.first,
             buyer: f.second,
-            security: f.subject,
+            security: subject,
             quantity: f.quantity,
             price: f.price,
         }),
         2 => Event::Price(Price {
-            security: f.subject,
+            security: subject,
             price: f.price,
         }),
         3 => Event::Delivery(Delivery {
-            position: f.subject,
+            position: subject,
             quantity: f.quantity,
         }),
-        4 => Event::Attempt(Attempt {
-            position: f.subject,
-        }),
+        4 => Event::Attempt(Attempt { position: subject }),
         5 => Event::Offer(Offer {
-            position: f.subject,
+            position: subject,
             offerer: f.first,
             quantity: f.quantity,
             price: f.price,
         }),
-        6 => Event::Award(Award {
-            position: f.subject,
-        }),
-        7 => Event::Confirm(Confirm { award: f.subject }),
-        8 => Event::Cash(Cash {
-            position: f.subject,
-        }),
+        6 => Event::Award(Award { position: subject }),
+        7 => Event::Confirm(Confirm { award: subject }),
+        8 => Event::Cash(Cash { position: subject }),
+        9 => Event::Close,
         _ => Event::Close,
     }
 }
@@ -207,7 +240,7 @@ fn event_from(kind: u8, f: Fields) -> Event
 pub fn event_count(file: &[u8]) -> u16
     ensures { λ r. ⌜ r ≡ count (now (file .entry)) ⌝ }
 {
-    word16_at(file, 0)
+    word16_at(file, COUNT_AT)
 }
 
 // How many events a file has: as many as its count says, and no more than it has kind bytes for.
@@ -216,10 +249,10 @@ pub fn events_in(file: &[u8]) -> u16
 {
     let count = event_count(file);
     let length = file.len();
-    if length < 4 {
+    if length < HEADER {
         return 0;
     }
-    let kinds = length - 4;
+    let kinds = length - HEADER;
     if kinds < count as usize {
         return kinds as u16;
     }
@@ -235,84 +268,57 @@ pub fn event_at(file: &[u8], i: usize) -> Event
     if count <= i {
         return Event::Close;
     }
-    let kind = byte_at(file, 4 + i);
-    let fields = fields_at(file, 4 + count + 16 * i);
+    let kind = byte_at(file, HEADER + i);
+    let fields = fields_at(file, HEADER + count + BODY * i);
     event_from(kind, fields)
 }
 
-fn used(subject: bool, first: bool, second: bool, quantity: bool, price: bool) -> Uses
-    ensures { λ r. ⌜ r ≡ use-of subject first second quantity price ⌝ }
+// The marks of a kind; a byte that is no kind uses no byte of a body.
+fn marks_of(kind: u8) -> [u8; BODY]
+    ensures { λ r. ⌜ r ≡ marksOf kind ⌝ }
 {
-    Uses {
-        subject,
-        first,
-        second,
-        quantity,
-        price,
+    if KINDS < kind {
+        return [0; BODY];
     }
+    USED[kind as usize]
 }
 
-// Which fields each kind has a use for: subject, seller or offerer, buyer, quantity, price.
-fn uses_of(kind: u8) -> Uses
-    ensures { λ r. ⌜ r ≡ usesOf kind ⌝ }
+// Whether a byte is spare and yet not zero.
+fn spare_byte(mark: u8, byte: u8) -> bool
+    ensures { λ r. ⌜ r ≡ spareByte mark byte ⌝ }
 {
-    match kind {
-        1 => used(true, true, true, true, true),
-        2 => used(true, false, false, false, true),
-        3 => used(true, false, false, true, false),
-        4 => used(true, false, false, false, false),
-        5 => used(true, true, false, true, true),
-        6 => used(true, false, false, false, false),
-        7 => used(true, false, false, false, false),
-        8 => used(true, false, false, false, false),
-        _ => used(false, false, false, false, false),
-    }
+    if mark != 0 { false } else { byte != 0 }
 }
 
-// Whether a field is spare and yet not zero.
-fn spare_word(used: bool, word: u32) -> bool
-    ensures { λ r. ⌜ r ≡ not used && nonzero word ⌝ }
+// Whether a spare byte of the body that begins at a place is not zero.
+fn spare_set(file: &[u8], at: usize, marks: [u8; BODY]) -> bool
+    requires { ⌜ at < 2147483648 ⌝ }
+    ensures { λ r. ⌜ r ≡ spareIn marks (take BODY (drop at (now (file .entry)))) ⌝ }
 {
-    if used { false } else { word != 0 }
-}
-
-// Whether a spare byte is not zero, in a field that is not used or in the four last bytes.
-fn spare_set(u: Uses, f: Fields, last: u32) -> bool
-    ensures { λ r. ⌜ r ≡ spareWords u f last ⌝ }
-{
-    if spare_word(u.subject, f.subject as u32) {
-        return true;
+    let mut j: usize = 0;
+    while j < BODY {
+        let byte = byte_at(file, at + j);
+        if spare_byte(marks[j], byte) {
+            return true;
+        }
+        j += 1;
     }
-    if spare_word(u.first, f.first as u32) {
-        return true;
-    }
-    if spare_word(u.second, f.second as u32) {
-        return true;
-    }
-    if spare_word(u.quantity, f.quantity) {
-        return true;
-    }
-    if spare_word(u.price, f.price) {
-        return true;
-    }
-    last != 0
+    false
 }
 
 // Refusal 6 or 7 of the event whose kind byte and body stand at two places, or 0.
 fn event_refusal(file: &[u8], place: usize, at: usize) -> u8
     requires { ⌜ at < 2147483648 ⌝ }
-    ensures { λ r. ⌜ r ≡ Refusals.first (reasons (getD (now (file .entry)) place 0) (take 16 (drop at (now (file .entry))))) ⌝ }
+    ensures { λ r. ⌜ r ≡ Refusals.first (reasons (getD (now (file .entry)) place 0) (take BODY (drop at (now (file .entry))))) ⌝ }
 {
     let kind = byte_at(file, place);
     if kind < 1 {
         return KIND;
     }
-    if 9 < kind {
+    if KINDS < kind {
         return KIND;
     }
-    let fields = fields_at(file, at);
-    let last = word32_at(file, at + 12);
-    if spare_set(uses_of(kind), fields, last) {
+    if spare_set(file, at, marks_of(kind)) {
         return SPARE;
     }
     0
@@ -320,12 +326,12 @@ fn event_refusal(file: &[u8], place: usize, at: usize) -> u8
 
 // Refusal 6 or 7 of the first event that has one, or 0.
 fn events_refusal(file: &[u8], count: usize) -> u8
-    requires { ⌜ (count ≤ 2048) × (length (now file) ≡ size count) ⌝ }
+    requires { ⌜ (count ≤ EVENTS) × (length (now file) ≡ size count) ⌝ }
     ensures { λ r. ⌜ r ≡ Refusals.first (checks (kindsIn (now (file .entry)) count) (bodiesIn (now (file .entry)) count)) ⌝ }
 {
     let mut i: usize = 0;
     while i < count {
-        let refusal = event_refusal(file, 4 + i, 4 + count + 16 * i);
+        let refusal = event_refusal(file, HEADER + i, HEADER + count + BODY * i);
         if refusal != 0 {
             return refusal;
         }
@@ -339,40 +345,40 @@ pub fn file_refusal(file: &[u8]) -> u8
     ensures { λ r. ⌜ r ≡ refusal (now (file .entry)) ⌝ }
 {
     let count = event_count(file) as usize;
-    if MOST_EVENTS < count {
+    if EVENTS < count {
         return FILE_SHAPE;
     }
-    let width = word16_at(file, 2);
-    if width != 16 {
+    let width = word16_at(file, WIDTH_AT);
+    if width != WIDTH {
         return FILE_SHAPE;
     }
-    if file.len() != 4 + 17 * count {
+    if file.len() != HEADER + EVENT_BYTES * count {
         return FILE_SHAPE;
     }
     events_refusal(file, count)
 }
 
 // The array that a file's events are read into, before they are.
-fn closes() -> [Event; 2048]
-    ensures { λ r. ⌜ r ≡ replicate 2048 Event.Close ⌝ }
+fn closes() -> [Event; EVENTS]
+    ensures { λ r. ⌜ r ≡ replicate EVENTS Event.Close ⌝ }
 {
-    [Event::Close; 2048]
+    [Event::Close; EVENTS]
 }
 
 // How many events are read: as many as the file says, and no more than the array has places for.
 fn events_read(file: &[u8]) -> usize
-    ensures { λ r. ⌜ r ≡ min (count (now (file .entry))) 2048 ⌝ }
+    ensures { λ r. ⌜ r ≡ min (count (now (file .entry))) EVENTS ⌝ }
 {
     let count = event_count(file) as usize;
-    if MOST_EVENTS < count {
-        return MOST_EVENTS;
+    if EVENTS < count {
+        return EVENTS;
     }
     count
 }
 
 // The events of a file; the places past the last one hold a close. `events_in` says how many there are.
-pub fn read_events(file: &[u8]) -> [Event; 2048]
-    ensures { λ r. ⌜ r ≡ padded Event.Close 2048 (eventsOf (now (file .entry))) ⌝ }
+pub fn read_events(file: &[u8]) -> [Event; EVENTS]
+    ensures { λ r. ⌜ r ≡ padded Event.Close EVENTS (eventsOf (now (file .entry))) ⌝ }
 {
     let mut events = closes();
     let stop = events_read(file);
@@ -404,6 +410,7 @@ fn kind_of(event: Event) -> u8
 // What an event writes into each field; a field that its kind has no use for is 0.
 fn fields_of(event: Event) -> Fields
     ensures { λ r. ⌜ r ≡ fieldsOf event ⌝ }
+    ensures { λ _. ⌜ Fits event ⌝ }
 {
     match event {
         Event::Trade(t) => fields_with(t.security, t.seller, t.buyer, t.quantity, t.price),
@@ -436,60 +443,62 @@ fn put32(page: &mut [u8], at: usize, word: u32)
     page[at + 3] = (word / 16777216 % 256) as u8;
 }
 
-// A body of 16 bytes, from a place on; the four last are spare.
+// A body, from a place on; the four last bytes hold no field.
 fn put_body(page: &mut [u8], at: usize, f: Fields)
-    requires { ⌜ at + 16 ≤ length (now page) ⌝ }
+    requires { ⌜ at + BODY ≤ length (now page) ⌝ }
     ensures { λ _. ⌜ now (page .exit) ≡ sets (now (page .entry)) at (body f) ⌝ }
 {
-    put16(page, at, f.subject);
-    page[at + 2] = f.first;
-    page[at + 3] = f.second;
-    put32(page, at + 4, f.quantity);
-    put32(page, at + 8, f.price);
-    put32(page, at + 12, 0);
+    put16(page, at + SUBJECT_AT, f.subject);
+    page[at + FIRST_AT] = f.first;
+    page[at + SECOND_AT] = f.second;
+    put32(page, at + QUANTITY_AT, f.quantity);
+    put32(page, at + PRICE_AT, f.price);
+    put32(page, at + LAST_AT, 0);
 }
 
 // The kind bytes of the first events, after the count and the width.
-fn put_kinds(page: &mut [u8], events: [Event; 2048], count: usize)
-    requires { ⌜ (count ≤ 2048) × (4 + count ≤ length (now page)) ⌝ }
-    ensures { λ _. ⌜ now (page .exit) ≡ sets (now (page .entry)) 4 (map kindOf (take count events)) ⌝ }
+fn put_kinds(page: &mut [u8], events: [Event; EVENTS], count: usize)
+    requires { ⌜ (count ≤ EVENTS) × (HEADER + count ≤ length (now page)) ⌝ }
+    ensures { λ _. ⌜ now (page .exit) ≡ sets (now (page .entry)) HEADER (map kindOf (take count events)) ⌝ }
 {
     let mut i: usize = 0;
     while i < count {
         let event = events[i];
-        page[4 + i] = kind_of(event);
+        page[HEADER + i] = kind_of(event);
         i += 1;
     }
 }
 
 // The bodies of the first events, after the kind bytes.
-fn put_bodies(page: &mut [u8], events: [Event; 2048], count: usize)
-    requires { ⌜ (count ≤ 2048) × (size count ≤ length (now page)) ⌝ }
-    ensures { λ _. ⌜ now (page .exit) ≡ sets (now (page .entry)) (4 + count) (each bodyOf (take count events)) ⌝ }
+fn put_bodies(page: &mut [u8], events: [Event; EVENTS], count: usize)
+    requires { ⌜ (count ≤ EVENTS) × (size count ≤ length (now page)) ⌝ }
+    ensures { λ _. ⌜ now (page .exit) ≡ sets (now (page .entry)) (HEADER + count) (each bodyOf (take count events)) ⌝ }
+    ensures { λ _. ⌜ All Fits (take count events) ⌝ }
 {
     let mut i: usize = 0;
     while i < count {
         let event = events[i];
-        put_body(page, 4 + count + 16 * i, fields_of(event));
+        put_body(page, HEADER + count + BODY * i, fields_of(event));
         i += 1;
     }
 }
 
 // The file of the first `count` events, written at the page's start. The bytes after the last body are kept, and a
-// call that is refused changes none.
-pub fn write_file(events: [Event; 2048], count: usize, page: &mut [u8]) -> Written
+// call that is refused changes none. The bytes that it reports as written pass, and are read as these events.
+pub fn write_file(events: [Event; EVENTS], count: usize, page: &mut [u8]) -> Written
     ensures { λ r. ⌜ r ≡ answer (writingRefusal count (length (now (page .entry)))) (size count) ⌝ }
     ensures { λ _. ⌜ now (page .exit) ≡ pageAfter (writingRefusal count (length (now (page .entry)))) (fileOf (take count events)) (now (page .entry)) ⌝ }
+    ensures { λ r. ⌜ (numberOf r ≡ 0 → ReadsBack (take count events) (take (quantityOf r) (now (page .exit)))) ⌝ }
 {
-    if MOST_EVENTS < count {
+    if EVENTS < count {
         return Written::Refused(FILE_SHAPE);
     }
-    let bytes = 4 + 17 * count;
+    let bytes = HEADER + EVENT_BYTES * count;
     if page.len() < bytes {
         return Written::Refused(FILE_SHAPE);
     }
-    put16(page, 0, count as u16);
-    put16(page, 2, 16);
+    put16(page, COUNT_AT, count as u16);
+    put16(page, WIDTH_AT, WIDTH);
     put_kinds(page, events, count);
     put_bodies(page, events, count);
     Written::Done(bytes as u32)

@@ -10,42 +10,26 @@ use lib.Dec.{eqb, ltb}
 use lib.ListN.{getD, set, length-set}
 use lib.Seq.{getD-set-same, getD-set-other, set-getD}
 use borrow.Author.Tests.{eqb-true, eqb-false, eq-eqb, lt-ltb}
-use Rattle.laws.specs.Asked.{Said, passed, failed, ask, and-left, and-right, both}
+use Rattle.laws.specs.Asked.{Said, passed, failed, ask, and-left, and-right, both, Within}
 use Rattle.laws.specs.Lists.{only}
 use Rattle.plain.specs.declared.Position.{Position}
 use Rattle.plain.specs.Book.{nth}
-use Rattle.plain.specs.Auction.{failing}
-use Rattle.plain.proofs.Accepted.{Within}
+use Rattle.plain.specs.Auction.{late, failing}
 use Rattle.failing.specs.Members.{bit, FailingWord, Added}
 use Rattle.failing.specs.Counts.{lateShorts, countPlace, Counted, OneMore, Turned}
+use Rattle.plain.proofs.Numbered.{nth-at, nth-set-same, nth-set-other}
 
 -- one position more: the member is failing by it, or by the others
-one-position : (short security member left late : Bool) (rest : Bool) (k : ℕ) → rest ≡ ltb 0 k
-    → (short && security && member && left && late) || rest ≡ ltb 0 (only ((short && security && left && late) && member) 1 + k)
-one-position short security member left late rest k e = go short security member left late
-  where
-    none : rest ≡ ltb 0 (0 + k)
-    none = rw (zero-add k) e
-
-    one : true ≡ ltb 0 (1 + k)
-    one = sym (lt-ltb 0 (1 + k) (omega arith))
-
-    go : (short security member left late : Bool) → (short && security && member && left && late) || rest ≡ ltb 0 (only ((short && security && left && late) && member) 1 + k)
-    go false security member left late = none
-    go true false member left late = none
-    go true true true false late = none
-    go true true true true false = none
-    go true true true true true = one
-    go true true false false late = none
-    go true true false true false = none
-    go true true false true true = none
+one-position : (late rest : Bool) (k : ℕ) → rest ≡ ltb 0 k → late || rest ≡ ltb 0 (only late 1 + k)
+one-position true rest k e = sym (lt-ltb 0 (1 + k) (omega arith))
+one-position false rest k e = rw (zero-add k) e
 
 -- a member is failing in a security where it holds a late open short
 pub failing-counted : (day : ℕ) (ps : List Position) (s m : ℕ) → failing day ps s m ≡ ltb 0 (lateShorts day ps s m)
 unfolding failing lateShorts
 failing-counted day [] s m = refl
 failing-counted day (p ∷ ps) s m =
-    one-position (p .short) (eqb (p .security) s) (eqb (p .member) m) (ltb 0 (p .unsettled)) (ltb (p .settlement .0) day) _ _ (failing-counted day ps s m)
+    one-position (late day s p && eqb (p .member) m) _ _ (failing-counted day ps s m)
 
 failing-same : (day next : ℕ) (ps qs : List Position) (s m : ℕ) → lateShorts next qs s m ≡ lateShorts day ps s m → failing day ps s m ≡ failing next qs s m
 failing-same day next ps qs s m e = failing-counted day ps s m ∙ ap (ltb 0) (sym e) ∙ sym (failing-counted next qs s m)
@@ -78,11 +62,11 @@ module _ (day next : ℕ) (ps qs : List Position) (words counts : List ℕ) (h :
 
     word-at : (s : ℕ) → Within 1 32 s → Said (eqb security s) → FailingWord next qs s (nth 0 (set words (security - 1) word) s)
     word-at s w (passed e) =
-        rw (← eqb-true security s e, getD-set-same words (security - 1) word 0 (omega (arith, h .securities, inside .above, inside .below)))
+        rw (← eqb-true security s e, nth-set-same 0 words security word (rw (h .securities) inside))
         (record { fits = fits; bits = λ m. bit-at m (ask (eqb member m)) })
     word-at s w (failed e) =
-        let other : s - 1 ≢ security - 1 = λ d. eqb-false security s e (omega (arith, w .above, inside .above, d)) in
-        rw (getD-set-other words (security - 1) (s - 1) word 0 other) (word-same s w (λ m. others s m (rw e)))
+        let other : s ≢ security = λ d. eqb-false security s e (sym d) in
+        rw (nth-set-other 0 words security s word (inside .above) other) (word-same s w (λ m. others s m (rw e)))
 
     count-at : (s m : ℕ) → Within 1 32 s → m ≤ 63 → Said (eqb security s && eqb member m) → getD (set counts (countPlace security member) count) (countPlace s m) 0 ≡ lateShorts next qs s m
     count-at s m w l (passed e) =
@@ -144,7 +128,7 @@ module _ (day : ℕ) (ps qs : List Position) (security member : ℕ) (more : One
   -- the word stays where a late open short is left
   pub counted-less : 0 < getD counts (countPlace security member) 0 - 1 → Counted day qs words (set counts (countPlace security member) (getD counts (countPlace security member) 0 - 1))
   counted-less some =
-      rw (set-getD words (security - 1) 0) at
+      rw (nth-at 0 words security (inside .above), set-getD words (security - 1) 0) at
       (counted-changed day day ps qs words counts h security member inside below (nth 0 words security) (getD counts (countPlace security member) 0 - 1) (h .failing security inside .fits)
       (λ m e. refl)
       (was-failing ∙ sym (lt-ltb 0 (getD counts (countPlace security member) 0 - 1) some))

@@ -16,20 +16,15 @@ use Rattle.plain.specs.declared.Piece.{Piece}
 use Rattle.plain.specs.declared.Manner.{Manner}
 use Rattle.plain.specs.Book.{Book, noPosition, positionOf, nth}
 use Rattle.plain.specs.Dealing.{taken, lowered, lowering}
-use Rattle.plain.proofs.Invariants.{Deals}
+use Rattle.plain.specs.Invariants.{Deals}
 use Rattle.plain.proofs.Discharged.{length-lowering, lowering-at, taken-short, taken-other, no-long}
-use Rattle.failing.specs.Members.{late}
+use Rattle.plain.specs.Auction.{late}
 use Rattle.failing.specs.Counts.{lateShort, lateShorts, LateBefore, UnitsOf, Lowered, OneMore}
 use Rattle.failing.proofs.Counting.{own-place}
 use Rattle.failing.proofs.Shorts.{is-late, not-open, not-late}
+use Rattle.plain.proofs.Numbered.{nth-at, sum-named}
 
 module _ {A : Type 0} (f : A → ℕ) where
-  -- an element counts in its sum
-  sum-at : (xs : List A) (i : ℕ) (d : A) → i < length xs → f (getD xs i d) ≤ sum f xs
-  sum-at [] i d h = absurd (omega arith)
-  sum-at (x ∷ xs) zero d h = omega arith
-  sum-at (x ∷ xs) (suc i) d h = omega (arith, sum-at xs i d (omega arith))
-
   -- sums that agree at each place, and at each but one
   sum-places : (xs ys : List A) (d : A) → length ys ≡ length xs → ((j : ℕ) → j < length xs → f (getD ys j d) ≡ f (getD xs j d)) → sum f ys ≡ sum f xs
   sum-places [] [] d l e = refl
@@ -50,7 +45,7 @@ module _ (day : ℕ) (ps : List Position) (n : ℕ) (p : Position) (quantity : �
   pub counts-one : quantity ≡ p .unsettled → p .settlement .0 < day → 0 < lateShorts day ps (p .security) (p .member)
   unfolding lateShorts
   counts-one e l =
-      let at : lateShort day (p .security) (p .member) (nth noPosition ps n) ≤ sum (lateShort day (p .security) (p .member)) ps = sum-at (lateShort day (p .security) (p .member)) ps (n - 1) noPosition (omega (arith, u .held .above, u .held .below)) in
+      let at : lateShort day (p .security) (p .member) (nth noPosition ps n) ≤ sum (lateShort day (p .security) (p .member)) ps = sum-named noPosition (lateShort day (p .security) (p .member)) ps n (u .held) in
       let one : lateShort day (p .security) (p .member) p ≡ 1 = is-late day (p .security) (p .member) p (u .short) (omega (arith, u .above)) l ∙ (rw (own-place (p .security) (p .member))) in
       omega (arith, rw (← u .is) at at, one)
 
@@ -61,7 +56,7 @@ module _ (day : ℕ) (ps : List Position) (n : ℕ) (p : Position) (quantity : �
     moved : (s m : ℕ) → lateShorts day ps s m + lateShort day s m after ≡ lateShorts day qs s m + lateShort day s m p
     unfolding lateShorts
     moved s m =
-        rw (u .is)
+        rw (u .is, nth-at noPosition ps n (u .held .above), nth-at noPosition qs n (u .held .above))
         (sum-apart (lateShort day s m) ps qs (n - 1) noPosition (low .long) (omega (arith, u .held .above, u .held .below))
         (λ j k d. rw (low .others j s k d, low .members j k)))
 
@@ -70,7 +65,8 @@ module _ (day : ℕ) (ps : List Position) (n : ℕ) (p : Position) (quantity : �
     still-open l s m =
         let mine : nth noPosition ps n ≡ p = sym (u .is) in
         let left : ltb 0 (after .unsettled) ≡ ltb 0 (p .unsettled) = lt-ltb 0 (after .unsettled) (omega (arith, rw mine at (low .unsettled))) ∙ sym (lt-ltb 0 (p .unsettled) (omega arith)) in
-        let same : lateShort day s m after ≡ lateShort day s m p = rw (left, low .short, low .security, low .settlement, low .members (n - 1) (omega (arith, u .held .above, u .held .below)), mine) in
+        let same-member : after .member ≡ nth noPosition ps n .member = rw (nth-at noPosition qs n (u .held .above), nth-at noPosition ps n (u .held .above)) (low .members (n - 1) (omega (arith, u .held .above, u .held .below))) in
+        let same : lateShort day s m after ≡ lateShort day s m p = rw (left, low .short, low .security, low .settlement, same-member, mine) in
         omega (arith, moved s m, same)
 
     pub not-yet-late : day ≤ p .settlement .0 → (s m : ℕ) → lateShorts day qs s m ≡ lateShorts day ps s m
@@ -97,9 +93,8 @@ module _ {b : Book} {m : Manner} {n q : ℕ} {xs : List Piece} (f : Deals b m n 
   -- a short but the discharged one gives nothing
   none-taken : (j : ℕ) → j ≢ n - 1 → getD (b .positions) j noPosition .short ≡ true → taken (suc j) xs ≡ 0
   none-taken j d e =
-      let place : suc j - 1 ≡ j = omega arith in
       taken-other f (suc j) (λ k. d (omega arith))
-      ∙ no-long f (suc j) (λ l. true≢false (sym e ∙ ap (λ (i : ℕ). getD (b .positions) i noPosition .short) (sym place) ∙ l .long))
+      ∙ no-long f (suc j) (λ l. true≢false (sym e ∙ l .long))
 
   late-kept : (day s k : ℕ) (p : Position) → (p .short ≡ true → taken k xs ≡ 0) → Said (p .short) → late day s (lowered xs k p) ≡ late day s p
   unfolding lowered
@@ -115,14 +110,21 @@ module _ {b : Book} {m : Manner} {n q : ℕ} {xs : List Piece} (f : Deals b m n 
         others = λ j s l d.
             ap (late day s) (lowering-at xs (b .positions) j l)
             ∙ late-kept day s (suc j) (getD (b .positions) j noPosition) (λ e. none-taken j d e) (ask (getD (b .positions) j noPosition .short));
-        short = lowered-field (λ p. p .short) xs (λ k p. refl) (b .positions) (n - 1) inside;
-        security = lowered-field (λ p. p .security) xs (λ k p. refl) (b .positions) (n - 1) inside;
-        settlement = lowered-field (λ p. p .settlement .0) xs (λ k p. refl) (b .positions) (n - 1) inside;
-        unsettled = ap (λ (p : Position). p .unsettled) (lowering-at xs (b .positions) (n - 1) inside) ∙ ap (λ (k : ℕ). positionOf b n .unsettled - k) (ap (λ (k : ℕ). taken k xs) number ∙ taken-short f);
+        short = named (λ p. p .short) (λ k p. refl);
+        security = named (λ p. p .security) (λ k p. refl);
+        settlement = named (λ p. p .settlement .0) (λ k p. refl);
+        unsettled =
+            ap (λ (p : Position). p .unsettled) (nth-at noPosition (lowering xs (b .positions)) n (f .dealable .held .above) ∙ lowering-at xs (b .positions) (n - 1) inside ∙ ap (lowered xs (suc (n - 1))) (sym (nth-at noPosition (b .positions) n (f .dealable .held .above))))
+            ∙ ap (λ (k : ℕ). positionOf b n .unsettled - k) (ap (λ (k : ℕ). taken k xs) number ∙ taken-short f);
       }
     where
       inside : n - 1 < length (b .positions)
       inside = omega (arith, f .dealable .held .above, f .dealable .held .below)
+
+      named : {A : Type 0} (g : Position → A) → ((k : ℕ) (p : Position) → g (lowered xs k p) ≡ g p) → g (nth noPosition (lowering xs (b .positions)) n) ≡ g (positionOf b n)
+      named g same =
+          rw (nth-at noPosition (lowering xs (b .positions)) n (f .dealable .held .above), nth-at noPosition (b .positions) n (f .dealable .held .above))
+          (lowered-field g xs same (b .positions) (n - 1) inside)
 
       number : suc (n - 1) ≡ n
       number = omega (arith, f .dealable .held .above)

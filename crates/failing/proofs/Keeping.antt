@@ -20,6 +20,7 @@ use Rattle.failing.proofs.Bits.{bit-zero}
 use Rattle.failing.specs.Counts.{lateShort, lateShorts, countPlace, Counted, LateBefore}
 use Rattle.failing.proofs.Counting.{counted-same}
 use Rattle.failing.proofs.Shorts.{not-late}
+use Rattle.plain.proofs.Numbered.{nth-replicate}
 
 -- A new book
 
@@ -33,7 +34,7 @@ counted-new day =
     record {
       securities = length-replicate {A = ℕ} 32 0;
       places = length-replicate {A = ℕ} 2048 0;
-      failing = λ s w. rw (getD-replicate {A = ℕ} 32 (s - 1) 0 0 (omega (arith, w .above, w .below))) (no-word day s);
+      failing = λ s w. rw (nth-replicate {A = ℕ} 0 32 s 0 w) (no-word day s);
       counted = λ s m w l. getD-replicate {A = ℕ} 2048 (countPlace s m) 0 0 (omega (arith, w .above, w .below));
     }
 

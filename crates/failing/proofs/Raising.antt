@@ -16,8 +16,8 @@ use Rattle.laws.specs.Sums.{only-le, sum-le, sum-length}
 use Rattle.laws.specs.Alls.{all-at}
 use Rattle.plain.specs.declared.Position.{Position}
 use Rattle.plain.specs.Book.{noPosition}
-use Rattle.plain.proofs.Invariants.{Rising}
-use Rattle.failing.specs.Members.{late}
+use Rattle.plain.specs.Invariants.{Rising}
+use Rattle.plain.specs.Auction.{late}
 use Rattle.failing.specs.Counts.{lateShort, lateShorts, Counted, LateBefore, OneMore}
 use Rattle.failing.proofs.Counting.{counted-same}
 use Rattle.failing.proofs.Shorts.{is-late, not-open, not-late, stays-late}

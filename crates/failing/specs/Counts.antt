@@ -7,12 +7,14 @@ use mathlib.Core.Bool.{true, not, cond, _&&_}
 use mathlib.Core.List.{List}
 use lib.Dec.{eqb}
 use lib.ListN.{length, getD}
+use Rattle.laws.specs.Limits.{ACCOUNTS, MEMBERS, SECURITIES}
 use Rattle.laws.specs.Lists.{All, only, sum}
 use Rattle.plain.specs.declared.Position.{Position}
 use Rattle.plain.specs.Book.{noPosition, nth}
-use Rattle.plain.proofs.Accepted.{Within}
+use Rattle.laws.specs.Asked.{Within}
 use Rattle.tables.specs.Tables.{Positions, positions, PositionsFit}
-use Rattle.failing.specs.Members.{bit, late, FailingWord}
+use Rattle.plain.specs.Auction.{late}
+use Rattle.failing.specs.Members.{bit, FailingWord}
 
 -- 1 where the position is "a short in it with open above 0 and r at least 1" and the member holds it
 abbrev pub lateShort : ℕ → ℕ → ℕ → Position → ℕ
@@ -24,14 +26,14 @@ lateShorts day ps security member = sum (lateShort day security member) ps
 
 -- the place of a security and a member among the counts: 64 for each security
 abbrev pub countPlace : ℕ → ℕ → ℕ
-countPlace security member = 64 * (security - 1) + member
+countPlace security member = ACCOUNTS * (security - 1) + member
 
 -- a word of failing members for each of 32 securities, and a count of late open shorts for each security and member
 pub record Counted (day : ℕ) (ps : List Position) (words counts : List ℕ) : Type 0 where
-  pub securities : length words ≡ 32
+  pub securities : length words ≡ SECURITIES
   pub places : length counts ≡ 2048
-  pub failing : (s : ℕ) → Within 1 32 s → FailingWord day ps s (nth 0 words s)
-  pub counted : (s m : ℕ) → Within 1 32 s → m ≤ 63 → getD counts (countPlace s m) 0 ≡ lateShorts day ps s m
+  pub failing : (s : ℕ) → Within 1 SECURITIES s → FailingWord day ps s (nth 0 words s)
+  pub counted : (s m : ℕ) → Within 1 SECURITIES s → m ≤ MEMBERS → getD counts (countPlace s m) 0 ≡ lateShorts day ps s m
 
 -- delivery days never fall along the positions, so that those of earlier days than this are the ones before a place
 pub record LateBefore (day : ℕ) (ps : List Position) (place : ℕ) : Type 0 where
@@ -59,16 +61,16 @@ pub record Lowered (day : ℕ) (ps qs : List Position) (n q : ℕ) : Type 0 wher
 
 -- a security and a member that have a word and a count
 pub record HasCount (words counts : List ℕ) (security member : ℕ) : Type 0 where
-  pub securities : length words ≡ 32
+  pub securities : length words ≡ SECURITIES
   pub places : length counts ≡ 2048
-  pub within : Within 1 32 security
-  pub below : member ≤ 63
+  pub within : Within 1 SECURITIES security
+  pub below : member ≤ MEMBERS
 
 -- the positions of a table, each with a place for its security and member
 pub record Numbered (table : Positions) : Type 0 where
   pub fit : PositionsFit table
-  pub members : All (λ p. p .member ≤ 63) (positions table)
-  pub securities : All (λ p. Within 1 32 (p .security)) (positions table)
+  pub members : All (λ p. p .member ≤ MEMBERS) (positions table)
+  pub securities : All (λ p. Within 1 SECURITIES (p .security)) (positions table)
 
 -- the member holds one late open short in the security more, and all else is as it was
 unfoldable pub OneMore : ℕ → List Position → ℕ → List Position → ℕ → ℕ → Type 0

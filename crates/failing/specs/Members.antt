@@ -1,15 +1,11 @@
 -- Document 01, 'The forms we expect': "a 64-bit word per security, one bit a member, tested at each offer".
 use Prim.Native.Nat.{ℕ, _/_, _%_, _^_, _<_}
 use mathlib.Core.Path.{_≡_}
-use mathlib.Core.Bool.{Bool, _&&_, _||_}
+use mathlib.Core.Bool.{Bool, _||_}
 use mathlib.Core.List.{List}
-use lib.Dec.{eqb, ltb}
+use lib.Dec.{eqb}
 use Rattle.plain.specs.declared.Position.{Position}
 use Rattle.plain.specs.Auction.{failing}
-
--- "a short in it with open above 0 and r at least 1": a position that makes its member a failing one
-abbrev pub late : ℕ → ℕ → Position → Bool
-late day security p = p .short && eqb (p .security) security && ltb 0 (p .unsettled) && ltb (p .settlement .0) day
 
 -- bit m of a word
 unfoldable pub bit : ℕ → ℕ → Bool

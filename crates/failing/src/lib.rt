@@ -6,20 +6,24 @@ ghost use mathlib.Core.List.{List};
 ghost use Prim.Native.Nat.{ℕ, _+_, _≤_, _<_};
 ghost use lib.Dec.{ltb};
 ghost use lib.ListN.{length, getD};
+ghost use Rattle.laws.specs.Limits.{MEMBERS, POSITIONS, SECURITIES};
 ghost use Rattle.plain.specs.declared.Position as plain;
 ghost use Rattle.plain.specs.Book.{nth};
-ghost use Rattle.plain.proofs.Accepted.{Within};
-ghost use Rattle.plain.proofs.Invariants.{Rising};
+ghost use Rattle.laws.specs.Asked.{Within};
+ghost use Rattle.plain.specs.Invariants.{Rising};
 ghost use Rattle.tables.specs.Tables as tables;
 ghost use Rattle.tables.specs.Lent.{positionTable};
 ghost use Rattle.failing.specs.Members.{bit, Added};
 ghost use Rattle.failing.specs.Counts as spec;
+use laws::ACCOUNTS;
 use laws::BusinessDay;
+use laws::MEMBERS;
+use laws::SECURITIES;
 use plain::Position;
 
 // For each security, one bit a member.
 pub struct Words {
-    pub words: [u64; 32],
+    pub words: [u64; SECURITIES],
 }
 
 // The words after a close, and the place in the table up to which positions are late.
@@ -32,7 +36,7 @@ pub fn is_failing(word: u64, member: u8) -> bool
     ensures { λ r. ⌜ r ≡ bit word member ⌝ }
 {
     // the word has no bit for a member above 63, and no shift goes so far
-    if 63 < member {
+    if MEMBERS < member {
         return false;
     }
     (word >> member) % 2 == 1
@@ -40,7 +44,7 @@ pub fn is_failing(word: u64, member: u8) -> bool
 
 // The word of a security.
 pub fn word_of(words: Words, security: u16) -> u64
-    requires { ⌜ (length (words .words) ≡ 32) × (Within 1 32 security) ⌝ }
+    requires { ⌜ (length (words .words) ≡ SECURITIES) × (Within 1 SECURITIES security) ⌝ }
     ensures { λ r. ⌜ r ≡ nth 0 (words .words) security ⌝ }
 {
     let k = (security - 1) as usize;
@@ -48,21 +52,21 @@ pub fn word_of(words: Words, security: u16) -> u64
 }
 
 fn count_place(security: u16, member: u8) -> usize
-    requires { ⌜ (Within 1 32 security) × (member ≤ 63) ⌝ }
+    requires { ⌜ (Within 1 SECURITIES security) × (member ≤ MEMBERS) ⌝ }
     ensures { λ r. ⌜ r ≡ spec.countPlace security member ⌝ }
 {
-    64 * ((security - 1) as usize) + (member as usize)
+    ACCOUNTS * ((security - 1) as usize) + (member as usize)
 }
 
 fn with_member(word: u64, member: u8) -> u64
-    requires { ⌜ member ≤ 63 ⌝ }
+    requires { ⌜ member ≤ MEMBERS ⌝ }
     ensures { λ r. ⌜ Added word member r ⌝ }
 {
     word | (1u64 << member)
 }
 
 fn without_member(word: u64, member: u8) -> u64
-    requires { ⌜ member ≤ 63 ⌝ }
+    requires { ⌜ member ≤ MEMBERS ⌝ }
     ensures { λ r. ⌜ spec.Turned word member r ⌝ }
 {
     word ^ (1u64 << member)
@@ -70,7 +74,7 @@ fn without_member(word: u64, member: u8) -> u64
 
 // The member holds one late open short in the security more.
 fn with_late_short(words: Words, counts: &mut [u32; 2048], security: u16, member: u8) -> Words
-    requires { ⌜ (spec.HasCount (words .words) (now counts) security member) × (getD (now counts) (spec.countPlace security member) 0 ≤ 1024) ⌝ }
+    requires { ⌜ (spec.HasCount (words .words) (now counts) security member) × (getD (now counts) (spec.countPlace security member) 0 ≤ POSITIONS) ⌝ }
     ensures { λ r. ⌜ ((day next : ℕ) (ps qs : List plain.Position) → spec.Counted day ps (words .words) (now (counts .entry)) → spec.OneMore day ps next qs security member → spec.Counted next qs (r .words) (now (counts .exit))) ⌝ }
 {
     let place = count_place(security, member);
@@ -110,7 +114,7 @@ pub fn discharged(
     quantity: u32,
     day: BusinessDay,
 ) -> Words
-    requires { ⌜ ((ps : List plain.Position) × (n : ℕ) × (spec.Counted (day .0) ps (words .words) (now counts)) × (spec.UnitsOf ps n p quantity)) × (Within 1 32 (p .security)) × (p .member ≤ 63) ⌝ }
+    requires { ⌜ ((ps : List plain.Position) × (n : ℕ) × (spec.Counted (day .0) ps (words .words) (now counts)) × (spec.UnitsOf ps n p quantity)) × (Within 1 SECURITIES (p .security)) × (p .member ≤ MEMBERS) ⌝ }
     ensures { λ r. ⌜ ((ps qs : List plain.Position) (n : ℕ) → spec.Counted (day .0) ps (words .words) (now (counts .entry)) → spec.UnitsOf ps n p quantity → spec.Lowered (day .0) ps qs n quantity → spec.Counted (day .0) qs (r .words) (now (counts .exit))) × (length (now (counts .exit)) ≡ 2048) ⌝ }
 {
     if quantity < p.unsettled {

@@ -1,47 +1,40 @@
 -- The claim about histories: after every list of the calls from any opened book, refused ones included, in place or by value, with sheets of
 -- any length.
-use Prim.Native.Nat.{ℕ, suc, _+_, _-_, _<_}
+use Prim.Native.Nat.{ℕ, suc, _-_, _<_}
 use native.Mathlib.Omega.{arith}
 use mathlib.Core.Path.{_≡_, refl, ap, sym, _∙_, subst}
 use mathlib.Core.Logic.{_≢_}
-use mathlib.Core.List.{List, [], _∷_, _++_, map}
-use mathlib.Core.Bool.{not}
+use mathlib.Core.List.{List, _∷_, _++_, map}
 use lib.Seq.{take-length, length-take-le}
-use lib.ListN.{length, getD, take, drop}
-use borrow.Author.Tests.{not-false, le-ltb}
-use lib.IntN.{pos, subℕ}
-use Rattle.laws.specs.Lists.{All, range, sum}
-use Rattle.laws.specs.Refusals.{_⇒_, accepted-zero, none-applies}
-use Rattle.laws.specs.Integers.{sumℤ}
-use Rattle.register.specs.declared.Register.{Register}
+use lib.ListN.{length}
+use borrow.Author.Tests.{le-ltb}
+use Rattle.laws.specs.Asked.{Said, passed, failed, ask, Within, both-bounds}
+use Rattle.plain.specs.declared.Opening.{Opening}
+use Rattle.plain.specs.declared.Position.{Position}
 use Rattle.plain.specs.declared.Piece.{Piece}
-use Rattle.plain.specs.declared.Manner.the-variants.{Delivered, BoughtIn, Cash}
 use Rattle.plain.specs.Book as plain
-use Rattle.plain.specs.Book.{new, noPosition, positionOf}
-use Rattle.plain.specs.Netting.{keys}
-use Rattle.plain.specs.Dealing.{takenBy}
-use Rattle.plain.specs.Charging.{creditOf, debitOf}
-use Rattle.plain.specs.Calls.{Call, shortOf}
+use Rattle.plain.specs.Book.{openingRead, new, noPosition, positionOf}
+use Rattle.plain.specs.Calls.{Call}
 use Rattle.plain.specs.Refusals.{refusal}
-use Rattle.plain.specs.Histories.{eventOf, next, pieces, quantity, run, handed, allCharges, acceptedEvents, formed, balance}
-use Rattle.plain.proofs.Accepted.{Within, both-bounds, next-keeps}
-use Rattle.plain.proofs.Invariants.{DueLong}
-use Rattle.plain.proofs.Sound.{Sound, done-sound, new-sound}
+use Rattle.plain.specs.Histories.{next, pieces, quantity, along, run, handed, acceptedEvents, formedBy, balance}
+use Rattle.plain.specs.Sound.{Sound}
+use Rattle.plain.proofs.Numbered.{nth-at}
+use Rattle.plain.proofs.Accepted.{next-keeps}
+use Rattle.plain.proofs.Sound.{done-sound, new-sound}
 use Rattle.plain.proofs.Discharges as discharges
 use Rattle.plain.proofs.Discharges.{discharge}
-use Rattle.plain.proofs.Bound.{Small}
 use Rattle.plain.proofs.Claim as told
 use Rattle.pieces.specs.Sheet.{piecesOf}
 use Rattle.pieces.proofs.Cells.{length-pieces}
 use Rattle.kept.specs.View.{answer, numberOf, quantityOf}
 use Rattle.calls.specs.View.{Called}
 use Rattle.calls.specs.Answers.{answered-number, answered-quantity}
-use Rattle.calls.specs.declared.PositionAnswer.{PositionAnswer}
-use Rattle.calls.specs.declared.BalanceAnswer.{BalanceAnswer}
-use Rattle.calls.specs.Reading.{notThere, positionNumber, positionFound, PositionRead, centsOf, BalanceRead}
+use Rattle.calls.specs.declared.PositionAnswer.the-variants.{Found, Refused}
+use Rattle.calls.specs.Reading.{positionAnswer, signed}
 use Rattle.book.specs.View as whole
 use Rattle.book.proofs.Returns as book
-use Rattle.history.specs.Runs.{Stand, view, Sheet, noSheet, numberSheet, pieceSheet, handedBack, Return, piecesOn, Answers, bare, onNumbers, byValue, lent, Runs, stop, step, last, sheets, along}
+use Rattle.history.specs.Runs.{Stand, view, Return, piecesOn, Answers, bare, onNumbers, byValue, lent, Runs, stop, step, last, sheets, RunsTo, Begins, inPlace, asOneValue}
+use Rattle.history.specs.Claim.{Each, none, one, DealtOut, Kept, Filled, History}
 
 -- What one call returned, with its pieces as the sheet has them: the same, however it was made
 
@@ -87,34 +80,16 @@ same-sheets (step {s = s} {c = c} {cs = cs} k rs) =
 
 -- Each call of the list, where the history stood when it was made
 
--- what is said of each call of a list
-pub data Each (P : Stand → Call → Return → Type 0) : Stand → List Call → List Return → Type 0 where
-  none : {s : Stand} → Each P s [] []
-  one : {s : Stand} {c : Call} {r : Return} {cs : List Call} {rs : List Return} → P s c r → Each P (r .stand) cs rs → Each P s (c ∷ cs) (r ∷ rs)
-
 module _ {P : Stand → Call → Return → Type 0} (p : (s : Stand) (c : Call) (r : Return) → Sound (view s) → Answers s c r → P s c r) where
   every : {s : Stand} {cs : List Call} {rs : List Return} → Sound (view s) → Runs s cs rs → Each P s cs rs
   every h stop = none
   every h (step {s = s} {c = c} {r = r} k ks) = one (p s c r h k) (every (subst Sound (sym (called k .returned .book)) (next-keeps Sound done-sound (view s) c h)) ks)
 
--- an accepted discharge's pieces add up to the quantity that it reports, and run from its short to due longs of that short's security
-pub record Dealt (s : Stand) (c : Call) (r : Return) : Type 0 where
-  pub total : sum (λ x. x .quantity) (piecesOn r) ≡ quantityOf (r .outcome)
-  pub shorts : All (λ x. x .short ≡ shortOf (view s) (eventOf c)) (piecesOn r)
-  pub longs : All (λ x. DueLong (view s) (positionOf (view s) (shortOf (view s) (eventOf c)) .security) (x .long)) (piecesOn r)
-
-abbrev pub DealtOut : Stand → Call → Return → Type 0
-DealtOut s c r = numberOf (r .outcome) ≡ 0 → shortOf (view s) (eventOf c) ≢ 0 → Dealt s c r
-
 dealt-out : (s : Stand) (c : Call) (r : Return) → Sound (view s) → Answers s c r → DealtOut s c r
-dealt-out s c r h k e some =
-    let d = discharge (view s) c h (sym (number k) ∙ e) some in
+dealt-out s c r h k e kind =
+    let d = discharge (view s) c h (sym (number k) ∙ e) kind in
     let given = called k .returned .pieces in
     record { total = rw (given, reported k) (d .total); shorts = rw given (d .shorts); longs = rw given (d .longs) }
-
--- "A refused call changes nothing": core and tables are the very same
-abbrev pub Kept : Stand → Call → Return → Type 0
-Kept s c r = numberOf (r .outcome) ≢ 0 → (r .stand ≡ s) × (piecesOn r ≡ []) × (quantityOf (r .outcome) ≡ 0)
 
 same-stand : (s z : Stand) → (z .core ≡ s .core) × (z .numbers ≡ s .numbers) → z ≡ s
 same-stand s z e i = record { core = e .0 i; numbers = e .1 i }
@@ -123,26 +98,6 @@ kept : {s : Stand} {c : Call} {r : Return} → Answers s c r → Kept s c r
 kept {s} {c} {r} k e =
     let f = discharges.refused (view s) c (turned-down k e) in
     (same-stand s (r .stand) (called k .kept (turned-down k e)), called k .returned .pieces ∙ f .pieces', reported k ∙ f .quantity')
-
--- what a call's sheet holds as it returned, with so many pieces: "The pieces fill the first places of a lent sheet ..; later places keep their
--- content". The later places of a sheet of numbers are free
-abbrev pub Holds : Sheet → ℕ → List Piece → Type 0
-Holds noSheet n xs = [] ≡ xs
-Holds (numberSheet m entry exit) n xs = take n (piecesOf m exit) ≡ xs
-Holds (pieceSheet entry exit) n xs = exit ≡ xs ++ drop n entry
-Holds (handedBack ys) n xs = ys ≡ xs
-
--- a sheet as at entry
-abbrev pub AsAtEntry : Sheet → Type 0
-AsAtEntry noSheet = Unit {0}
-AsAtEntry (numberSheet m entry exit) = exit ≡ entry
-AsAtEntry (pieceSheet entry exit) = exit ≡ entry
-AsAtEntry (handedBack xs) = xs ≡ []
-
-pub record Filled (s : Stand) (c : Call) (r : Return) : Type 0 where
-  pub count : r .count ≡ length (pieces (view s) c)
-  pub filled : Holds (r .sheet) (r .count) (pieces (view s) c)
-  pub kept : numberOf (r .outcome) ≢ 0 → AsAtEntry (r .sheet)
 
 filled : {s : Stand} {c : Call} {r : Return} → Answers s c r → Filled s c r
 unfolding whole.view
@@ -164,73 +119,60 @@ filled (lent k) = record { count = k .count; filled = k .sheet; kept = λ e. k .
 
 -- What the reads report
 
-read-there : (b : plain.Book) (n : ℕ) (a : PositionAnswer) → PositionRead b n a → positionNumber a ≡ 0 → Within 1 (length (b .positions)) n
-read-there b n a r e =
-    let reasons = (not (plain.there (b .positions) n) ⇒ 11) ∷ [] in
-    both-bounds 1 (length (b .positions)) n (not-false _ (none-applies reasons refl (sym (r .number) ∙ e) .0))
-
-read-found : (b : plain.Book) (n : ℕ) (a : PositionAnswer) → PositionRead b n a → positionNumber a ≡ 0 → positionFound a ≡ positionOf b n
-read-found b n a r e = r .position ∙ accepted-zero (notThere (b .positions) n) (positionOf b n) noPosition (sym (r .number) ∙ e)
-
-read-cents : (b : plain.Book) (k : ℕ) (a : BalanceAnswer) → BalanceRead b k a → k < 64 → centsOf a ≡ balance b k
-read-cents b k a r h = r .cents ∙ simp (le-ltb 63 k (omega arith))
+-- a position that is found is there, and is the book's
+read-found : (b : plain.Book) (n : ℕ) (p : Position) → positionAnswer b n ≡ Found p → (Within 1 (length (b .positions)) n) × (positionOf b n ≡ p)
+read-found b n p e = go (ask (plain.there (b .positions) n))
+  where
+    go : Said (plain.there (b .positions) n) → (Within 1 (length (b .positions)) n) × (positionOf b n ≡ p)
+    go (passed t) =
+        let same : Found (positionOf b n) ≡ Found p = rw t at e in
+        (both-bounds 1 (length (b .positions)) n t, (cc))
+    go (failed t) =
+        let none : Refused 11 ≡ Found p = rw t at e in
+        let z : _≡_ {A = ℕ} 0 1 = cc in
+        absurd (omega arith)
 
 -- The claim
 
-pub record History (register : Register) (s : Stand) (cs : List Call) (rs : List Return) : Type 0 where
-  -- 1. each call's answer, its refusal number and its quantity are the plain book's, and the book is the plain book's
-  pub answered : map (λ r. r .outcome) rs ≡ along (λ b c. answer (refusal b c) (quantity b c)) (new register) cs
-  pub numbers : map (λ r. numberOf (r .outcome)) rs ≡ along refusal (new register) cs
-  pub reported : map (λ r. quantityOf (r .outcome)) rs ≡ along quantity (new register) cs
-  pub book : view (last s rs) ≡ run (new register) cs
-  -- 2. each position's netted quantity, worked out from the accepted trades and closes of the list alone, is delivered, bought in, settled in cash and open
-  pub netted : (i : ℕ) → i < length (view (last s rs) .positions)
-      → getD (formed (keys (register .count)) 1 [] (acceptedEvents (new register) cs)) i noPosition .netted
-      ≡ takenBy Delivered (suc i) (sheets rs) + takenBy BoughtIn (suc i) (sheets rs) + takenBy Cash (suc i) (sheets rs)
-      + getD (view (last s rs) .positions) i noPosition .unsettled
-  -- the same of what the public read reports of a position: its answer, as the read's contract has it
-  pub open-units : (n : ℕ) (a : PositionAnswer) → PositionRead (view (last s rs)) n a → positionNumber a ≡ 0
-      → getD (formed (keys (register .count)) 1 [] (acceptedEvents (new register) cs)) (n - 1) noPosition .netted
-      ≡ takenBy Delivered n (sheets rs) + takenBy BoughtIn n (sheets rs) + takenBy Cash n (sheets rs) + positionFound a .unsettled
-  -- 3. each call's pieces are the plain book's, in the same order; an accepted discharge's add up to the quantity that it reports
-  pub dealt : map piecesOn rs ≡ along pieces (new register) cs
-  pub discharges : Each DealtOut s cs rs
-  -- 4. every account is the charging rules summed over the list
-  pub accounts : (k : ℕ) → k < 64 → balance (view (last s rs)) k ≡ subℕ (creditOf k (allCharges (new register) cs)) (debitOf k (allCharges (new register) cs))
-  -- the same of what the public read reports of an account
-  pub balances : (k : ℕ) (a : BalanceAnswer) → BalanceRead (view (last s rs)) k a → k < 64
-      → centsOf a ≡ subℕ (creditOf k (allCharges (new register) cs)) (debitOf k (allCharges (new register) cs))
-  -- 5. all 64 accounts add up to zero, and none leaves plus or minus 10^17 cents
-  pub zero-sum : sumℤ (balance (view (last s rs))) (range 0 64) ≡ pos 0
-  pub small : (k : ℕ) → Small (view (last s rs)) k
-  -- a refused call returns the very same core, leaves every table as it was, hands out no pieces and reports quantity 0
-  pub refused : Each Kept s cs rs
-  -- each call's sheet holds the plain book's pieces, a sheet of structs after them the places as at entry; a refused call's is as at entry
-  pub filled : Each Filled s cs rs
+-- what every history begins with: the new plain book of what the register's bytes open a book with
+begun : {bytes : List ℕ} {s : Stand} → Begins bytes s → view s ≡ new (openingRead bytes)
+unfolding whole.view
+begun (inPlace {a = a} o z blank) = o .book a blank
+begun (asOneValue o z) = o .book
 
-pub history : (register : Register) {s : Stand} {cs : List Call} {rs : List Return} → view s ≡ new register → Runs s cs rs → History register s cs rs
-history register {s} {cs} {rs} e runs =
-    let same : view (last s rs) ≡ run (new register) cs = agrees runs ∙ ap (λ (p : plain.Book). run p cs) e in
-    let given : sheets rs ≡ handed (new register) cs = same-sheets runs ∙ ap (λ (p : plain.Book). handed p cs) e in
-    let claim = told.claim register cs in
-    let sound : Sound (view s) = subst Sound (sym e) (new-sound register) in
+claim : (opening : Opening) {s : Stand} {cs : List Call} {rs : List Return} → view s ≡ new opening → Runs s cs rs → History opening s cs rs
+claim opening {s} {cs} {rs} e runs =
+    let same : view (last s rs) ≡ run (new opening) cs = agrees runs ∙ ap (λ (p : plain.Book). run p cs) e in
+    let given : sheets rs ≡ handed (new opening) cs = same-sheets runs ∙ ap (λ (p : plain.Book). handed p cs) e in
+    let claim = told.claim opening cs in
+    let sound : Sound (view s) = subst Sound (sym e) (new-sound opening) in
     record {
-      answered = all-same (λ r. r .outcome) (λ b c. answer (refusal b c) (quantity b c)) (λ s c r k. called k .returned .outcome) (new register) e runs;
-      numbers = all-same (λ r. numberOf (r .outcome)) refusal (λ s c r k. number k) (new register) e runs;
-      reported = all-same (λ r. quantityOf (r .outcome)) quantity (λ s c r k. reported k) (new register) e runs;
+      answered = all-same (λ r. r .outcome) (λ b c. answer (refusal b c) (quantity b c)) (λ s c r k. called k .returned .outcome) (new opening) e runs;
+      numbers = all-same (λ r. numberOf (r .outcome)) refusal (λ s c r k. number k) (new opening) e runs;
+      reported = all-same (λ r. quantityOf (r .outcome)) quantity (λ s c r k. reported k) (new opening) e runs;
       book = same;
       netted = rw (same, given) (λ i h. sym (claim .netted i) ∙ claim .tallied i h);
-      open-units = λ n a r z.
-          let held = read-there (view (last s rs)) n a r z in
-          let place : suc (n - 1) ≡ n = omega (arith, held .above) in
-          let here : n - 1 < length (run (new register) cs .positions) = omega (arith, held .above, held .below, ap (λ (p : plain.Book). length (p .positions)) same) in
-          rw (given, read-found (view (last s rs)) n a r z, same) (rw place at (sym (claim .netted (n - 1)) ∙ claim .tallied (n - 1) here));
-      dealt = all-same piecesOn pieces (λ s c r k. called k .returned .pieces) (new register) e runs;
+      open-units = λ n p found.
+          let f = read-found (view (last s rs)) n p found in
+          let place : suc (n - 1) ≡ n = omega (arith, f .0 .above) in
+          let here : n - 1 < length (run (new opening) cs .positions) = omega (arith, f .0 .above, f .0 .below, ap (λ (p : plain.Book). length (p .positions)) same) in
+          rw (given, ← f .1, same, nth-at noPosition (formedBy opening (acceptedEvents (new opening) cs)) n (f .0 .above), nth-at noPosition (run (new opening) cs .positions) n (f .0 .above))
+          (rw place at (sym (claim .netted (n - 1)) ∙ claim .tallied (n - 1) here));
+      positions = rw same (claim .positions);
+      dealt = all-same piecesOn pieces (λ s c r k. called k .returned .pieces) (new opening) e runs;
       discharges = every dealt-out sound runs;
       accounts = rw same (claim .accounts');
-      balances = λ k a r h. read-cents (view (last s rs)) k a r h ∙ ap (λ (p : plain.Book). balance p k) same ∙ claim .accounts' k h;
+      balances = λ k h. rw (le-ltb 63 k (omega arith)) (ap signed (ap (λ (p : plain.Book). balance p k) same ∙ claim .accounts' k h));
       zero-sum = rw same (claim .zero-sum);
       small = rw same (claim .small);
       refused = every (λ s c r h k. kept k) sound runs;
       filled = every (λ s c r h k. filled k) sound runs;
     }
+
+-- the claim about histories, from what opening was given and answered
+pub history : {bytes : List ℕ} {s : Stand} {cs : List Call} {rs : List Return} → Begins bytes s → Runs s cs rs → History (openingRead bytes) s cs rs
+history {bytes} b runs = claim (openingRead bytes) (begun b) runs
+
+-- and so of what was played: `replay` and the player ensure `RunsTo` of the calls of a file
+pub played : {bytes : List ℕ} {s z : Stand} {cs : List Call} → Begins bytes s → (r : RunsTo s cs z) → History (openingRead bytes) s cs (r .returns)
+played b r = history b (r .runs)

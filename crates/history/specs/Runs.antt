@@ -1,5 +1,6 @@
 -- Document 01, 'The plain book': "Demand 3 is a single claim about the list (also called a history), not one for each call. Nobody else writes the book meanwhile. A call's pieces are read as it returns."
 use Prim.Native.Nat.{ℕ}
+use mathlib.Core.Path.{_≡_}
 use mathlib.Core.List.{List, [], _∷_}
 use lib.ListN.{length, take}
 use Rattle.laws.specs.Lists.{each}
@@ -9,11 +10,14 @@ use Rattle.plain.specs.declared.Manner.{Manner}
 use Rattle.plain.specs.declared.Outcome.{Outcome}
 use Rattle.plain.specs.Book as plain
 use Rattle.plain.specs.Calls.{Call, call}
-use Rattle.plain.specs.Histories.{next}
 use Rattle.pieces.specs.Sheet.{piecesOf}
 use Rattle.calls.specs.declared.Core.{Core}
-use Rattle.calls.specs.View.{Numbers, bookOf, CalledBare, CalledOn}
+use Rattle.calls.specs.declared.Opened as calls
+use Rattle.calls.specs.Opening as opening
+use Rattle.calls.specs.View.{Numbers, bookOf, CalledBare, CalledOn, Blank}
 use Rattle.book.specs.declared.Book.{Book}
+use Rattle.book.specs.declared.Opened as book
+use Rattle.book.specs.Opening as whole
 use Rattle.book.specs.View.{numbersIn, Returned}
 use Rattle.sheet.specs.Lent.{ReturnedOn}
 
@@ -81,7 +85,14 @@ last s (r ∷ rs) = last (r .stand) rs
 unfoldable pub sheets : List Return → List Piece
 sheets rs = each piecesOn rs
 
--- what the plain book gives the calls one after the other
-unfoldable pub along : {A : Type 0} → (plain.Book → Call → A) → plain.Book → List Call → List A
-along f b [] = []
-along f b (c ∷ cs) = f b c ∷ along f (next b c) cs
+-- a list of calls that leads from one place to another: what each returned, and that the last left the history there
+pub record RunsTo (s : Stand) (cs : List Call) (z : Stand) : Type 0 where
+  pub returns : List Return
+  pub runs : Runs s cs returns
+  pub end : last s returns ≡ z
+
+-- where a history begins: with what opening answered to the bytes of a register that it did not refuse; in place, with blank numbers for the
+-- tables, or as one value
+pub data Begins (bytes : List ℕ) : Stand → Type 0 where
+  inPlace : {o : calls.Opened} {a : Numbers} → opening.OpenedOn bytes o → o .number ≡ 0 → Blank a → Begins bytes (record { core = o .core; numbers = a })
+  asOneValue : {o : book.Opened} → whole.OpenedOn bytes o → o .number ≡ 0 → Begins bytes (standOf (o .book))

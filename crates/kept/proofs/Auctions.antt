@@ -7,12 +7,12 @@ use mathlib.Core.Logic.{_≢_}
 use mathlib.Core.Bool.{Bool, true, false, not}
 use mathlib.Core.List.{List, [], _∷_, _++_}
 use lib.ListN.{length, take, set, getD, length-set}
-use lib.Seq.{length-take-le, take-suc-set, getD-take}
-use lib.Dec.{ltb, leb, eqb}
+use lib.Seq.{length-take-le, take-suc-set}
+use lib.Dec.{ltb, eqb}
 use borrow.Author.Tests.{eqb-true, leb-false, not-false}
 use Rattle.laws.specs.Lists.{All, only, sum, some}
-use Rattle.laws.specs.Asked.{and-left, and-right, or-left, within-low, within-high, within}
-use Rattle.laws.specs.Alls.{all-of, all-at}
+use Rattle.laws.specs.Asked.{and-left, and-right, within, both-bounds}
+use Rattle.laws.specs.Alls.{all-of}
 use Rattle.laws.specs.Refusals.{first, none-applies, first-past, first-there, here, past}
 use Rattle.rules.specs.Windows.{stepOn}
 use Rattle.rules.specs.Prices.{ceiling}
@@ -25,21 +25,23 @@ use Rattle.plain.specs.declared.Position.{Position}
 use Rattle.plain.specs.declared.Award as made
 use Rattle.plain.specs.Book as plain
 use Rattle.plain.specs.Auction.{failing}
-use Rattle.plain.specs.Calls.{call, done, amount, auctionAwards, withAuction, withAwards}
-use Rattle.plain.specs.Refusals.{refusal, stepToday}
+use Rattle.plain.specs.Changing as changing
+use Rattle.plain.specs.Calls.{call, done, amount, auctionAwards}
+use Rattle.plain.specs.Refusals.{refusal, stepToday, attemptReasons, offerReasons, auctionReasons, awardReasons, reasons}
 use Rattle.plain.proofs.Accepted.{AwardTaken, award-taken}
-use Rattle.plain.proofs.Invariants.{Fair}
+use Rattle.plain.specs.Invariants.{Fair}
 use Rattle.tables.specs.Tables.{Positions, Awards}
 use Rattle.tables.specs.Tables as table
 use Rattle.auction.specs.Awards.{Awardable, Awarded, awardedIn}
 use Rattle.kept.specs.View.{Kept, view, Fits, Valid}
-use Rattle.refusals.specs.Auctions.{awardRefusal, attemptReasons, attemptRefusal, offerReasons, offerRefusal, auctionReasons, auctionRefusal, award-refusal-is, attempt-refusal-is, offer-refusal-is}
+use Rattle.kept.specs.Changing.{withAuction, withAwards, withMarks}
 use Rattle.kept.specs.Auctions.{Done, ceilingOn}
+use Rattle.plain.proofs.Numbered.{nth-take, nth-all}
 
 -- the position of a number that is within the table
 pub position-is : (t : Positions) (n : ℕ) → 1 ≤ n → n ≤ t .count → getD (t .items) (n - 1) plain.noPosition ≡ plain.nth plain.noPosition (table.positions t) n
 unfolding Rattle.tables.specs.Tables.positions
-position-is t n low high = sym (getD-take (t .count) (t .items) (n - 1) plain.noPosition (omega arith))
+position-is t n low high = sym (nth-take plain.noPosition (t .items) (t .count) n (record { above = low; below = high }))
 
 pub held-is : (t : Positions) → table.PositionsFit t → length (table.positions t) ≡ t .count
 unfolding Rattle.tables.specs.Tables.positions
@@ -47,15 +49,14 @@ held-is t f = length-take-le (t .count) (t .items) (omega (arith, f .places, f .
 
 -- An award
 
-pub award-number : (b : Kept) (a : Award) → Fits b → refusal (view b) (call (event.Award a) 0) ≡ awardRefusal (b .positions .count) (b .auction .position) (a .position)
-unfolding view Rattle.tables.specs.Tables.auction
+pub award-number : (b : Kept) (a : Award) → Fits b → refusal (view b) (call (event.Award a) 0) ≡ first (awardReasons (b .positions .count) (b .auction .position) (a .position))
+unfolding view reasons refusal Rattle.tables.specs.Tables.auction
 award-number b a f =
-    award-refusal-is (view b) 0 a ∙ ap (λ (k : ℕ). awardRefusal k (b .auction .position) (a .position)) (held-is (b .positions) (f .positions))
+    ap (λ (k : ℕ). first (awardReasons k (b .auction .position) (a .position))) (held-is (b .positions) (f .positions))
 
 -- the book after an auction that ended in awards
 abbrev pub endedBook : Kept → Awards → Kept
-endedBook b awards =
-    record { register = b .register; day = b .day; trades = b .trades; prices = b .prices; positions = b .positions; auction = record { position = 0; ceiling = 0; offers = b .auction .offers; count = 0 }; awards = awards; marks = b .marks; ledger = b .ledger }
+endedBook b awards = withAwards (withAuction b (record { position = 0; ceiling = 0; offers = b .auction .offers; count = 0 })) awards
 
 module _ (b : Kept) (a : Award) (v : Valid b) (e : refusal (view b) (call (event.Award a) 0) ≡ 0) where
   accepted-award : AwardTaken (view b) a
@@ -74,7 +75,7 @@ module _ (b : Kept) (a : Award) (v : Valid b) (e : refusal (view b) (call (event
   unfolding view Rattle.tables.specs.Tables.auction
   runs = and-left (ltb 0 (b .auction .position)) (eqb (b .auction .position) (a .position)) (accepted-award .running)
 
-  -- "each attempt makes at most sixteen awards": there is room for those of this auction
+  -- each attempt makes at most sixteen awards: there is room for those of this auction
   room : b .awards .count + b .auction .count ≤ 256
   unfolding view Rattle.tables.specs.Tables.auction Rattle.tables.specs.Tables.awards
   room =
@@ -97,7 +98,7 @@ module _ (b : Kept) (a : Award) (v : Valid b) (e : refusal (view b) (call (event
     unfolding view done amount Rattle.tables.specs.Tables.auction
     award-done =
         record {
-          book = ap (λ (l : List made.Award). withAwards (withAuction (view b) plain.noAuction) l) (is .added ∙ ap (λ (l : List made.Award). table.awards (b .awards) ++ l) awards-are);
+          book = ap (λ (l : List made.Award). changing.withAwards (changing.withAuction (view b) plain.noAuction) l) (is .added ∙ ap (λ (l : List made.Award). table.awards (b .awards) ++ l) awards-are);
           fits =
               record {
                 register = v .fits .register;
@@ -117,11 +118,11 @@ module _ (b : Kept) (v : Valid b) (n : ℕ) (in-use : within 1 (b .positions .co
   there-is : within 1 (length (table.positions (b .positions))) n ≡ true
   there-is = ap (λ (k : ℕ). within 1 k n) (held-is (b .positions) (v .fits .positions)) ∙ in-use
 
-  fair-at : Fair (b .register .count) (b .day .0) (plain.positionOf (view b) n)
+  fair-at : Fair (b .opening .register .count) (b .day .0) (plain.positionOf (view b) n)
   unfolding view
   fair-at =
-      all-at (Fair (b .register .count) (b .day .0)) (table.positions (b .positions)) (n - 1) plain.noPosition
-      (omega (arith, within-low 1 (b .positions .count) n in-use, within-high 1 (b .positions .count) n in-use, held-is (b .positions) (v .fits .positions)))
+      nth-all plain.noPosition (Fair (b .opening .register .count) (b .day .0)) (table.positions (b .positions)) n
+      (both-bounds 1 (length (table.positions (b .positions))) n there-is)
       (v .sound .standing .fair)
 
   -- its security is one of the register's
@@ -130,7 +131,7 @@ module _ (b : Kept) (v : Valid b) (n : ℕ) (in-use : within 1 (b .positions .co
       rw at (fair-at .security .above, omega (arith, fair-at .security .below, v .fits .register .high))
 
 module _ {p q : Position} {s t : Step} {l m k j : ℕ} {x y : Bool} (auction : ℕ) where
-  same-attempt : p ≡ q → s ≡ t → l ≡ m → k ≡ j → x ≡ y → attemptRefusal p s auction l k x ≡ attemptRefusal q t auction m j y
+  same-attempt : p ≡ q → s ≡ t → l ≡ m → k ≡ j → x ≡ y → first (attemptReasons p s auction l k x) ≡ first (attemptReasons q t auction m j y)
   same-attempt a c d e f = cc
 
 marks-is : (b : Kept) → Fits b → length (table.marks (b .marks)) ≡ b .marks .count
@@ -138,32 +139,31 @@ unfolding Rattle.tables.specs.Tables.marks
 marks-is b f = length-take-le (b .marks .count) (b .marks .items) (omega (arith, f .marks .places, f .marks .held))
 
 pub attempt-missing : (b : Kept) (a : Attempt) → Fits b → within 1 (b .positions .count) (a .position) ≡ false → 11 ≡ refusal (view b) (call (event.Attempt a) 0)
-unfolding view
+unfolding view reasons refusal
 attempt-missing b a f e =
-    here 11 _ (ap not (ap (λ (k : ℕ). within 1 k (a .position)) (held-is (b .positions) (f .positions)) ∙ e)) ∙ sym (attempt-refusal-is (view b) 0 a)
+    here 11 _ (ap not (ap (λ (k : ℕ). within 1 k (a .position)) (held-is (b .positions) (f .positions)) ∙ e))
 
 module _ (b : Kept) (a : Attempt) (v : Valid b) (in-use : within 1 (b .positions .count) (a .position) ≡ true)
     (p : Position) (at : p ≡ plain.positionOf (view b) (a .position))
-    (latest : ℕ) (priced : latest ≡ plain.nth 0 (b .prices .latest) (p .security))
-    (class : ℕ) (classed : class ≡ plain.nth 0 (b .register .classes) (p .security)) where
+    (latest : ℕ) (priced : latest ≡ plain.nth plain.noPrice (b .prices .latest) (p .security) .price)
+    (class : ℕ) (classed : class ≡ plain.nth 0 (b .opening .register .classes) (p .security)) where
   latest-is : latest ≡ plain.latestOf (view b) (plain.positionOf (view b) (a .position) .security)
   unfolding view
-  latest-is = priced ∙ ap (λ (q : Position). plain.nth 0 (b .prices .latest) (q .security)) at
+  latest-is = priced ∙ ap (λ (q : Position). plain.nth plain.noPrice (b .prices .latest) (q .security) .price) at
 
   class-is : class ≡ plain.classOf (view b) (plain.positionOf (view b) (a .position) .security)
   unfolding view
-  class-is = classed ∙ ap (λ (q : Position). plain.nth 0 (b .register .classes) (q .security)) at
+  class-is = classed ∙ ap (λ (q : Position). plain.nth 0 (b .opening .register .classes) (q .security)) at
 
   pub attempt-number : (today : Step) (marked : Bool)
       → today ≡ stepOn class (b .day .0 - p .settlement .0) → marked ≡ some (λ k. eqb k (a .position)) (table.marks (b .marks))
-      → attemptRefusal p today (b .auction .position) latest (b .marks .count) marked ≡ refusal (view b) (call (event.Attempt a) 0)
-  unfolding view stepToday attemptRefusal Rattle.tables.specs.Tables.auction
+      → first (attemptReasons p today (b .auction .position) latest (b .marks .count) marked) ≡ refusal (view b) (call (event.Attempt a) 0)
+  unfolding view stepToday reasons refusal Rattle.tables.specs.Tables.auction
   attempt-number today marked on m =
       past 11 (ap not (there-is b v (a .position) in-use))
       (same-attempt (b .auction .position) at
       (on ∙ ap (λ (c : ℕ). stepOn c (b .day .0 - p .settlement .0)) classed ∙ ap (stepToday (view b)) at)
       latest-is (sym (marks-is b (v .fits))) m)
-      ∙ sym (attempt-refusal-is (view b) 0 a)
 
   pub ceiling-is : (c : ℕ) → c ≡ ceiling class latest → c ≡ ceilingOn (view b) (a .position)
   ceiling-is c e =
@@ -172,19 +172,20 @@ module _ (b : Kept) (a : Attempt) (v : Valid b) (in-use : within 1 (b .positions
       ∙ ap (λ (k : ℕ). ceiling (plain.classOf (view b) (plain.positionOf (view b) (a .position) .security)) k) latest-is
 
 -- an attempt that is accepted finds a place among the marks
-pub mark-room : (p : Position) (today : Step) (auction latest attempts : ℕ) (marked : Bool) → attemptRefusal p today auction latest attempts marked ≡ 0 → attempts < 16
-unfolding attemptRefusal attemptReasons
+pub mark-room : (p : Position) (today : Step) (auction latest attempts : ℕ) (marked : Bool) → first (attemptReasons p today auction latest attempts marked) ≡ 0 → attempts < 16
+unfolding attemptReasons
 mark-room p today auction latest attempts marked e =
-    leb-false 16 attempts (or-left (leb 16 attempts) marked (none-applies (attemptReasons p today auction latest attempts marked) refl e .1 .1 .1 .1 .0))
+    let h = none-applies (attemptReasons p today auction latest attempts marked) refl e in
+    leb-false 16 attempts (search)
 
 -- the book with one more mark and an auction without offers
 abbrev pub attemptedBook : Kept → ℕ → ℕ → Kept
 attemptedBook b n top =
-    record { register = b .register; day = b .day; trades = b .trades; prices = b .prices; positions = b .positions; auction = record { position = n; ceiling = top; offers = b .auction .offers; count = 0 }; awards = b .awards; marks = record { items = set (b .marks .items) (b .marks .count) n; count = b .marks .count + 1 }; ledger = b .ledger }
+    withMarks (withAuction b (record { position = n; ceiling = top; offers = b .auction .offers; count = 0 }))
+    (record { items = set (b .marks .items) (b .marks .count) n; count = b .marks .count + 1 })
 
 abbrev attempted : plain.Book → ℕ → ℕ → List ℕ → plain.Book
-attempted b n top marks =
-    record { register = b .register; day = b .day; past = b .past; trades = b .trades; prices = b .prices; positions = b .positions; auction = record { position = n; ceiling = top; offers = [] }; awards = b .awards; marks = marks; ledger = b .ledger }
+attempted b n top marks = changing.withMarks (changing.withAuction b (record { position = n; ceiling = top; offers = [] })) marks
 
 module _ (b : Kept) (a : Attempt) (f : Fits b) (free : b .marks .count < 16) (c : ℕ) (top : c ≡ ceilingOn (view b) (a .position)) where
   one-mark : take (b .marks .count + 1) (set (b .marks .items) (b .marks .count) (a .position)) ≡ table.marks (b .marks) ++ a .position ∷ []
@@ -214,34 +215,32 @@ module _ (b : Kept) (a : Attempt) (f : Fits b) (free : b .marks .count < 16) (c 
 pub offer-number : (b : Kept) (o : Offer) (v : Valid b) (fails : Bool)
     → fails ≡ failing (b .day .0) (table.positions (b .positions)) (plain.positionOf (view b) (o .position) .security) (o .offerer)
     → refusal (view b) (call (event.Offer o) 0) ≡ first (offerReasons (b .positions .count) (b .auction .position) o ++ auctionReasons fails (b .auction .ceiling) (b .auction .count) (o .price))
-unfolding view Rattle.tables.specs.Tables.auction
+unfolding view reasons refusal Rattle.tables.specs.Tables.auction
 offer-number b o v fails e =
     let f = v .fits .auction in
     let held = held-is (b .positions) (v .fits .positions) in
     let offers = length-take-le (b .auction .count) (b .auction .offers) (omega (arith, f .places, f .held)) in
-    offer-refusal-is (view b) 0 o ∙ joined held (sym e) offers
+    joined held (sym e) offers
   where
     joined : {h k m n : ℕ} {x y : Bool} → h ≡ k → x ≡ y → m ≡ n → first (offerReasons h (b .auction .position) o ++ auctionReasons x (b .auction .ceiling) m (o .price)) ≡ first (offerReasons k (b .auction .position) o ++ auctionReasons y (b .auction .ceiling) n (o .price))
     joined c d g = cc
 
 module _ (b : Kept) (o : Offer) (v : Valid b) where
   -- turned down by its fields or the auction's position
-  pub offer-first : (n : ℕ) → n ≡ offerRefusal (b .positions .count) (b .auction .position) o → n ≢ 0 → n ≡ refusal (view b) (call (event.Offer o) 0)
-  unfolding offerRefusal
+  pub offer-first : (n : ℕ) → n ≡ first (offerReasons (b .positions .count) (b .auction .position) o) → n ≢ 0 → n ≡ refusal (view b) (call (event.Offer o) 0)
   offer-first n e some =
       e
       ∙ sym (first-there (offerReasons (b .positions .count) (b .auction .position) o) _ (λ z. some (e ∙ z)))
       ∙ sym (offer-number b o v (failing (b .day .0) (table.positions (b .positions)) (plain.positionOf (view b) (o .position) .security) (o .offerer)) refl)
 
-  module _ (e : offerRefusal (b .positions .count) (b .auction .position) o ≡ 0) where
+  module _ (e : first (offerReasons (b .positions .count) (b .auction .position) o) ≡ 0) where
     pub offer-held : within 1 (b .positions .count) (o .position) ≡ true
-    unfolding offerRefusal offerReasons
-    offer-held = not-false _ (none-applies (offerReasons (b .positions .count) (b .auction .position) o) refl e .1 .0)
+    unfolding offerReasons
+    offer-held = let h = none-applies (offerReasons (b .positions .count) (b .auction .position) o) refl e in not-false _ (search)
 
     pub offer-then : (fails : Bool)
         → fails ≡ failing (b .day .0) (table.positions (b .positions)) (plain.positionOf (view b) (o .position) .security) (o .offerer)
-        → refusal (view b) (call (event.Offer o) 0) ≡ auctionRefusal fails (b .auction .ceiling) (b .auction .count) (o .price)
-    unfolding offerRefusal auctionRefusal
+        → refusal (view b) (call (event.Offer o) 0) ≡ first (auctionReasons fails (b .auction .ceiling) (b .auction .count) (o .price))
     offer-then fails same =
         offer-number b o v fails same
         ∙ first-past (offerReasons (b .positions .count) (b .auction .position) o) (auctionReasons fails (b .auction .ceiling) (b .auction .count) (o .price)) (unfold offerReasons in refl) e
@@ -250,16 +249,17 @@ module _ (b : Kept) (o : Offer) (v : Valid b) where
 pub members-fit : (b : Kept) → Valid b → All (λ p. p .member ≤ 63) (table.positions (b .positions))
 unfolding view
 members-fit b v =
-    all-of (Fair (b .register .count) (b .day .0)) (λ (p : Position). p .member ≤ 63) (table.positions (b .positions)) (λ p h. h .member .below) (v .sound .standing .fair)
+    all-of (Fair (b .opening .register .count) (b .day .0)) (λ (p : Position). p .member ≤ 63) (table.positions (b .positions)) (λ p h. h .member .below) (v .sound .standing .fair)
 
 -- an offer that is accepted finds a place
-pub offer-room : (fails : Bool) (top offers price : ℕ) → auctionRefusal fails top offers price ≡ 0 → offers < 16
-unfolding auctionRefusal auctionReasons
-offer-room fails top offers price e = leb-false 16 offers (none-applies (auctionReasons fails top offers price) refl e .1 .1 .0)
+pub offer-room : (fails : Bool) (top offers price : ℕ) → first (auctionReasons fails top offers price) ≡ 0 → offers < 16
+unfolding auctionReasons
+offer-room fails top offers price e = let h = none-applies (auctionReasons fails top offers price) refl e in leb-false 16 offers (search)
 
 abbrev pub offeredBook : Kept → Offer → Kept
 offeredBook b o =
-    record { register = b .register; day = b .day; trades = b .trades; prices = b .prices; positions = b .positions; auction = record { position = b .auction .position; ceiling = b .auction .ceiling; offers = set (b .auction .offers) (b .auction .count) o; count = b .auction .count + 1 }; awards = b .awards; marks = b .marks; ledger = b .ledger }
+    withAuction b
+    (record { position = b .auction .position; ceiling = b .auction .ceiling; offers = set (b .auction .offers) (b .auction .count) o; count = b .auction .count + 1 })
 
 module _ (b : Kept) (o : Offer) (f : Fits b) (free : b .auction .count < 16) where
   one-offer : take (b .auction .count + 1) (set (b .auction .offers) (b .auction .count) o) ≡ take (b .auction .count) (b .auction .offers) ++ o ∷ []
@@ -269,7 +269,7 @@ module _ (b : Kept) (o : Offer) (f : Fits b) (free : b .auction .count < 16) whe
   unfolding view done amount Rattle.tables.specs.Tables.auction
   offer-done =
       record {
-        book = ap (λ (l : List Offer). withAuction (view b) (record { position = b .auction .position; ceiling = b .auction .ceiling; offers = l })) one-offer;
+        book = ap (λ (l : List Offer). changing.withAuction (view b) (record { position = b .auction .position; ceiling = b .auction .ceiling; offers = l })) one-offer;
         fits =
             record {
               register = f .register;

@@ -6,10 +6,16 @@ use mathlib.Core.List.{List, []}
 use lib.ListN.{length, take, drop}
 use lib.Seq.{length-take-le, drop-length}
 use Rattle.laws.specs.Lists.{All}
+use Rattle.laws.specs.Refusals.{first}
 use Rattle.events.specs.declared.Event.the-variants as event
+use Rattle.events.specs.declared.Trade.{Trade}
+use Rattle.plain.specs.declared.Position.{Position}
+use Rattle.plain.specs.declared.Ledger.{Ledger}
+use Rattle.plain.specs.Book as plain
+use Rattle.plain.specs.Changing.{withDay, withPast, withTrades, withPositions, withAwards, withMarks, withLedger}
 use Rattle.plain.specs.Charging.{Charge, posted}
 use Rattle.plain.specs.Calls.{call, charges, done}
-use Rattle.plain.specs.Refusals.{refusal}
+use Rattle.plain.specs.Refusals.{closeReasons, reasons, refusal}
 use Rattle.plain.proofs.Accepted.{close-taken}
 use Rattle.plain.proofs.Sound.{sound-dealt}
 use Rattle.plain.proofs.Accounts.{posted-places}
@@ -23,14 +29,13 @@ use Rattle.ledger.specs.Parts.{closeChargesOf, close-charges}
 use Rattle.ledger.specs.Tabled.{Awarded, CloseFinable}
 use Rattle.ledger.proofs.Reached.{call-room, positions-count, all-awarded}
 use Rattle.kept.specs.View.{Kept, view, Fits, Valid}
-use Rattle.refusals.specs.Closing.{closeRefusal, close-refusal-is}
 use Rattle.kept.specs.Closing.{closedBook}
 use Rattle.kept.proofs.Entered.{all-held}
 use Rattle.kept.proofs.Discharging.{accounted}
 
-pub close-number : (b : Kept) → refusal (view b) (call event.Close 0) ≡ closeRefusal (b .auction .position) (b .day .0)
-unfolding view Rattle.tables.specs.Tables.auction
-close-number b = close-refusal-is (view b) 0
+pub close-number : (b : Kept) → refusal (view b) (call event.Close 0) ≡ first (closeReasons (b .auction .position) (b .day .0))
+unfolding view reasons refusal Rattle.tables.specs.Tables.auction
+close-number b = refl
 
 -- a close that is accepted has a next day
 pub close-early : (b : Kept) → refusal (view b) (call event.Close 0) ≡ 0 → b .day .0 < 9999
@@ -48,10 +53,10 @@ module _ (t : Trades) (f : table.TradesFit t) where
 -- What the parts of a close ask
 
 module _ (b : Kept) (v : Valid b) where
-  same-charges : closeChargesOf (b .awards) (b .positions) (b .prices) (b .register) (b .day) ≡ charges (view b) event.Close
+  same-charges : closeChargesOf (b .awards) (b .positions) (b .prices) (b .opening .register) (b .day) ≡ charges (view b) event.Close
   unfolding view charges
   same-charges =
-      close-charges (view b) (b .awards) (b .positions) (b .prices) (b .register) refl refl refl refl (b .day) refl
+      close-charges (view b) (b .awards) (b .positions) (b .prices) (b .opening .register) refl refl refl refl (b .day) refl
 
   close-room : refusal (view b) (call event.Close 0) ≡ 0 → Room (b .ledger) (charges (view b) event.Close)
   unfolding view done
@@ -66,7 +71,7 @@ module _ (b : Kept) (v : Valid b) where
       subst (λ (n : ℕ). All (Awarded n) (table.awards (b .awards))) (positions-count (b .positions) (v .fits .positions))
       (all-awarded (view b) (v .sound .auctioned))
 
-  pub close-finable : refusal (view b) (call event.Close 0) ≡ 0 → CloseFinable (b .ledger) (b .awards) (b .positions) (b .prices) (b .register) (b .day)
+  pub close-finable : refusal (view b) (call event.Close 0) ≡ 0 → CloseFinable (b .ledger) (b .awards) (b .positions) (b .prices) (b .opening .register) (b .day)
   close-finable e =
       record {
         room = subst (λ (cs : List Charge). Room (b .ledger) cs) (sym same-charges) (close-room e);
@@ -76,7 +81,7 @@ module _ (b : Kept) (v : Valid b) where
         awarded = awarded;
       }
 
-  pub day-fits : DayFits (b .positions) (b .trades) (b .day) (b .register .count)
+  pub day-fits : DayFits (b .positions) (b .trades) (b .day) (b .opening .register .count)
   unfolding view
   day-fits =
       let s = v .sound .standing in
@@ -95,8 +100,12 @@ module _
     (b : Kept)
     (v : Valid b)
     (p : Positions)
-    (netted : DayNetted (b .positions) (b .trades) (b .day) (b .register .count) p)
+    (netted : DayNetted (b .positions) (b .trades) (b .day) (b .opening .register .count) p)
   where
+    -- the plain book on another day, with other trades, positions and accounts, its awards and marks cleared
+    abbrev closedAs : ℕ → ℕ → List Trade → List Position → Ledger → plain.Book
+    closedAs day past trades ps l = withDay (withMarks (withAwards (withTrades (withPast (withPositions (withLedger (view b) l) ps) past) trades) []) []) day
+
     pub closed-view : view (closedBook b p) ≡ done (view b) event.Close
     unfolding view done Rattle.tables.specs.Tables.today Rattle.tables.specs.Tables.awards Rattle.tables.specs.Tables.marks
     closed-view =
@@ -104,19 +113,7 @@ module _
         let past = sym (all-held (b .trades) (v .fits .trades)) in
         let trades = none-today (b .trades) (v .fits .trades) in
         let ledger = ap (λ (cs : List Charge). posted (b .ledger) cs) (same-charges b v) in
-        λ i.
-        record {
-          register = b .register;
-          day = tomorrow i;
-          past = past i;
-          trades = trades i;
-          prices = b .prices .latest;
-          positions = netted .made i;
-          auction = table.auction (b .auction);
-          awards = [];
-          marks = [];
-          ledger = ledger i;
-        }
+        λ i. closedAs (tomorrow i) (past i) (trades i) (netted .made i) (ledger i)
 
     pub closed-fits : Fits (closedBook b p)
     closed-fits =

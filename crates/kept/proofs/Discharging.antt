@@ -4,14 +4,15 @@ use Prim.Native.Nat.{ℕ, _+_, _-_, _≤_}
 use native.Mathlib.Omega.{arith}
 use mathlib.Core.Path.{_≡_, refl, ap, sym, _∙_, subst}
 use mathlib.Core.Logic.{_≢_}
+use mathlib.Core.Bool.{true}
 use mathlib.Core.List.{List, [], _∷_, _++_, map}
 use lib.ListN.{length, take}
 use lib.Seq.{length-take-le}
 use borrow.Author.Tests.{not-false}
 use Rattle.laws.specs.Lists.{All, number}
-use Rattle.laws.specs.Alls.{all-of, all-at, all-anywhere}
+use Rattle.laws.specs.Alls.{all-of}
 use Rattle.laws.specs.Sums.{sum-map}
-use Rattle.laws.specs.Asked.{within-low, within-high}
+use Rattle.laws.specs.Asked.{within-low, within-high, Within, within}
 use Rattle.laws.specs.Refusals.{Reason, first, none-applies, first-past, first-there}
 use Rattle.events.specs.declared.Delivery.{Delivery}
 use Rattle.events.specs.declared.Confirm.{Confirm}
@@ -27,18 +28,20 @@ use Rattle.plain.specs.declared.Manner.the-variants as manner
 use Rattle.plain.specs.Book as plain
 use Rattle.plain.specs.Dealing.{names, taken, takenBy, lowered, lowering}
 use Rattle.plain.specs.Auction.{unconfirmed}
-use Rattle.plain.specs.Calls.{call, withAwards, dealt, discharged, handsOut, charges, amount, done}
+use Rattle.plain.specs.Changing as changing
+use Rattle.plain.specs.Calls.{call, dealt, discharged, handsOut, charges, amount, done}
 use Rattle.rules.specs.Charges.{buyInCharge}
 use Rattle.rules.specs.Windows.{stepOn}
 use Rattle.rules.specs.declared.Step.{Step}
-use Rattle.plain.specs.Charging.{Charge, charge, buyInCharges, priced, cashCharges, posted, credited, debited}
-use Rattle.plain.specs.Refusals.{stepToday, refusal}
-use Rattle.plain.proofs.Accepted.{Within, delivery-taken, confirm-taken, cash-taken}
-use Rattle.plain.proofs.Invariants.{Fair, Dealable, Deals, AwardFits}
+use Rattle.plain.specs.Charging.{Charge, charge, buyInCharges, priced, cashCharges, posted, credited, debited, cashChargesBy, pricedBy}
+use Rattle.plain.specs.Refusals.{stepToday, refusal, lookupReasons, deliveryReasons, confirmReasons, cashReasons, free, reasons}
+use Rattle.plain.proofs.Accepted.{delivery-taken, confirm-taken, cash-taken}
+use Rattle.plain.specs.Invariants.{Fair, Dealable, Deals, AwardFits}
 use Rattle.plain.proofs.AwardSteps.{delivery-dealable, confirm-dealable, cash-dealable}
 use Rattle.plain.proofs.Dealt.{deals, longs-suffice}
 use Rattle.plain.proofs.Sound.{done-sound, sound-dealt}
-use Rattle.plain.proofs.Accounts.{Places, Booked, booked, posted-places}
+use Rattle.plain.specs.Sound.{Places, Booked}
+use Rattle.plain.proofs.Accounts.{booked, posted-places}
 use Rattle.plain.proofs.Bound.{done-bound}
 use Rattle.plain.proofs.Claim.{bounding, accountable}
 use Rattle.tables.specs.Tables.{Positions, Awards}
@@ -48,11 +51,12 @@ use Rattle.positions.specs.Dealing.{Dealing, DealtOut, Dealt}
 use Rattle.auction.specs.Awards.{Countable, Confirmable, Confirmed}
 use Rattle.ledger.specs.Posts.{Room}
 use Rattle.ledger.specs.Tabled.{Chargeable, Accounted, Paired, Priceable, Priced}
-use Rattle.ledger.specs.Parts.{cashChargesBy, priced-pieces, cash-charges}
+use Rattle.ledger.specs.Parts.{priced-pieces}
 use Rattle.ledger.proofs.Reached.{call-room, all-accounted, all-references, all-paired}
 use Rattle.kept.specs.View.{Kept, view, Fits, Valid}
-use Rattle.refusals.specs.Discharging.{lookupReasons, lookupRefusal, deliveryReasons, deliveryRefusal, delivery-refusal-is, confirmReasons, confirmRefusal, confirm-refusal-is, cashReasons, cashRefusal, cash-refusal-is}
+use Rattle.kept.specs.Changing.{withPositions, withAwards, withLedger}
 use Rattle.kept.specs.Discharging.{Terms, Dischargeable, Done}
+use Rattle.plain.proofs.Numbered.{nth-all, nth-anywhere}
 
 -- Places in use
 
@@ -70,20 +74,20 @@ awards-many t f = in-use (t .items) (t .count) (omega (arith, f .places, f .held
 
 -- The refusals
 
-pub lookup-there : (sheet held n : ℕ) → lookupRefusal sheet held n ≡ 0 → Within 1 held n
-unfolding lookupRefusal lookupReasons
+pub lookup-there : (sheet held n : ℕ) → first (lookupReasons sheet held n) ≡ 0 → Within 1 held n
+unfolding lookupReasons
 lookup-there sheet held n e =
-    let h = not-false _ (none-applies (lookupReasons sheet held n) refl e .1 .0) in
+    let none = none-applies (lookupReasons sheet held n) refl e in
+    let h : within 1 held n ≡ true = not-false _ (search) in
     record { above = within-low 1 held n h; below = within-high 1 held n h }
 
 -- the refusals before and after the position or award is looked at, in the plain book's order
 module _ (sheet held n whole : ℕ) (rest : List Reason) (is : whole ≡ first (lookupReasons sheet held n ++ rest)) where
-  pub missing-number : (number : ℕ) → number ≡ lookupRefusal sheet held n → number ≢ 0 → whole ≡ number
-  unfolding lookupRefusal
+  pub missing-number : (number : ℕ) → number ≡ first (lookupReasons sheet held n) → number ≢ 0 → whole ≡ number
   missing-number number e some = is ∙ first-there (lookupReasons sheet held n) rest (λ z. some (e ∙ z)) ∙ sym e
 
-  pub found-number : lookupRefusal sheet held n ≡ 0 → whole ≡ first rest
-  unfolding lookupRefusal lookupReasons
+  pub found-number : first (lookupReasons sheet held n) ≡ 0 → whole ≡ first rest
+  unfolding lookupReasons
   found-number e = is ∙ first-past (lookupReasons sheet held n) rest refl e
 
 -- What the callees ask
@@ -101,14 +105,14 @@ module _ (b : Kept) (v : Valid b) where
         enough = f .enough;
         suffice = longs-suffice (view b) n q (v .sound .settled .even) f;
         whole = v .sound .settled .whole;
-        bounded = all-of (Fair (b .register .count) (b .day .0)) (λ p. p .netted ≤ 512000000) (table.positions (b .positions)) (λ p h. h .netted .below) (v .sound .standing .fair);
+        bounded = all-of (Fair (b .opening .register .count) (b .day .0)) (λ p. p .netted ≤ 512000000) (table.positions (b .positions)) (λ p h. h .netted .below) (v .sound .standing .fair);
       }
 
   -- each position has an account, and a security that is registered
   pub accounted : All Accounted (table.positions (b .positions))
   unfolding view
   accounted =
-      all-accounted (b .register .count) (b .day .0) (table.positions (b .positions)) (v .sound .standing .fair) (v .fits .register .high)
+      all-accounted (b .opening .register .count) (b .day .0) (table.positions (b .positions)) (v .sound .standing .fair) (v .fits .register .high)
 
   pub countable : Countable (b .awards)
   unfolding view
@@ -130,15 +134,14 @@ module _ (b : Kept) (v : Valid b) where
 
 -- the book with other positions, awards and accounts
 abbrev pub after : Kept → Positions → Awards → Ledger → Kept
-after b ps today l =
-    record { register = b .register; day = b .day; trades = b .trades; prices = b .prices; positions = ps; auction = b .auction; awards = today; marks = b .marks; ledger = l }
+after b ps today l = withLedger (withAwards (withPositions b ps) today) l
 
 module _ (b : Kept) (ps : Positions) (today : Awards) (l : Ledger) where
   after-view : (xs : List Piece) (marked : List Award) (cs : List Charge)
       → table.positions ps ≡ lowering xs (table.positions (b .positions)) → table.awards today ≡ marked → l ≡ posted (b .ledger) cs
-      → view (after b ps today l) ≡ withAwards (discharged (view b) xs cs) marked
+      → view (after b ps today l) ≡ changing.withAwards (discharged (view b) xs cs) marked
   unfolding view discharged
-  after-view xs marked cs lowers marks posts = λ i. record { register = b .register; day = b .day .0; past = b .trades .netted; trades = table.today (b .trades); prices = b .prices .latest; positions = lowers i; auction = table.auction (b .auction); awards = marks i; marks = table.marks (b .marks); ledger = posts i }
+  after-view xs marked cs lowers marks posts = rw (lowers, marks, posts)
 
   after-fits : Fits b → table.PositionsFit ps → table.AwardsFit today → Places l → Fits (after b ps today l)
   after-fits f p a k =
@@ -156,17 +159,16 @@ module _ (b : Kept) (ps : Positions) (today : Awards) (l : Ledger) where
 
 module _ (b : Kept) (v : Valid b) (d : Delivery) where
   module _ (sheet : ℕ) where
-    pub delivery-split : refusal (view b) (call (event.Delivery d) sheet) ≡ first (lookupReasons sheet (b .positions .count) (d .position) ++ deliveryReasons (plain.positionOf (view b) (d .position)) (b .day .0) (b .auction .position) (unconfirmed (d .position) (table.awards (b .awards))) d)
-    unfolding view Rattle.tables.specs.Tables.auction
+    pub delivery-split : refusal (view b) (call (event.Delivery d) sheet) ≡ first (lookupReasons sheet (b .positions .count) (d .position) ++ deliveryReasons (plain.positionOf (view b) (d .position)) (b .day .0) (b .auction .position) (plain.positionOf (view b) (d .position) .unsettled - unconfirmed (d .position) (table.awards (b .awards))) d)
+    unfolding view free reasons refusal Rattle.tables.specs.Tables.auction
     delivery-split =
-        delivery-refusal-is (view b) sheet d
-        ∙ ap (λ (k : ℕ). first (lookupReasons sheet k (d .position) ++ deliveryReasons (plain.positionOf (view b) (d .position)) (b .day .0) (b .auction .position) (unconfirmed (d .position) (table.awards (b .awards))) d)) (positions-many (b .positions) (v .fits .positions))
+        ap (λ (k : ℕ). first (lookupReasons sheet k (d .position) ++ deliveryReasons (plain.positionOf (view b) (d .position)) (b .day .0) (b .auction .position) (plain.positionOf (view b) (d .position) .unsettled - unconfirmed (d .position) (table.awards (b .awards))) d)) (positions-many (b .positions) (v .fits .positions))
 
     pub delivery-number : (p : Position) (reserved number : ℕ)
-        → lookupRefusal sheet (b .positions .count) (d .position) ≡ 0 → p ≡ plain.nth plain.noPosition (table.positions (b .positions)) (d .position)
-        → reserved ≡ unconfirmed (d .position) (table.awards (b .awards)) → number ≡ deliveryRefusal p (b .day .0) (b .auction .position) reserved d
+        → first (lookupReasons sheet (b .positions .count) (d .position)) ≡ 0 → p ≡ plain.nth plain.noPosition (table.positions (b .positions)) (d .position)
+        → reserved ≡ unconfirmed (d .position) (table.awards (b .awards)) → number ≡ first (deliveryReasons p (b .day .0) (b .auction .position) (p .unsettled - reserved) d)
         → refusal (view b) (call (event.Delivery d) sheet) ≡ number
-    unfolding view deliveryRefusal
+    unfolding view
     delivery-number p reserved number e same units is = found-number sheet _ _ _ _ delivery-split e ∙ sym (rw (same, units) at is)
 
   pub delivery-dealing : Dischargeable b (event.Delivery d) → Dealing (b .positions) (b .day .0) (d .position) (d .quantity)
@@ -188,13 +190,12 @@ module _ (b : Kept) (v : Valid b) (d : Delivery) where
 module _ (b : Kept) (v : Valid b) (c : Confirm) where
   module _ (sheet : ℕ) where
     pub confirm-split : refusal (view b) (call (event.Confirm c) sheet) ≡ first (lookupReasons sheet (b .awards .count) (c .award) ++ confirmReasons (plain.awardOf (view b) (c .award)))
-    unfolding view
+    unfolding view reasons refusal
     confirm-split =
-        confirm-refusal-is (view b) sheet c
-        ∙ ap (λ (k : ℕ). first (lookupReasons sheet k (c .award) ++ confirmReasons (plain.awardOf (view b) (c .award)))) (awards-many (b .awards) (v .fits .awards))
+        ap (λ (k : ℕ). first (lookupReasons sheet k (c .award) ++ confirmReasons (plain.awardOf (view b) (c .award)))) (awards-many (b .awards) (v .fits .awards))
 
-    pub confirm-number : (a : Award) (number : ℕ) → lookupRefusal sheet (b .awards .count) (c .award) ≡ 0 → a ≡ plain.nth plain.noAward (table.awards (b .awards)) (c .award) → number ≡ confirmRefusal a → refusal (view b) (call (event.Confirm c) sheet) ≡ number
-    unfolding view confirmRefusal
+    pub confirm-number : (a : Award) (number : ℕ) → first (lookupReasons sheet (b .awards .count) (c .award)) ≡ 0 → a ≡ plain.nth plain.noAward (table.awards (b .awards)) (c .award) → number ≡ first (confirmReasons a) → refusal (view b) (call (event.Confirm c) sheet) ≡ number
+    unfolding view
     confirm-number a number e same is = found-number sheet _ _ _ _ confirm-split e ∙ sym (rw same at is)
 
   -- the award that is confirmed, and its short
@@ -260,11 +261,11 @@ module _ (b : Kept) (v : Valid b) (c : Confirm) where
 -- pricing changes nothing that positions are lowered by
 module _ (b : plain.Book) (xs : List Piece) where
   taken-priced : (n : ℕ) → taken n (map (priced b) xs) ≡ taken n xs
-  unfolding taken names priced
+  unfolding taken names priced pricedBy
   taken-priced n = sum-map (names n) (priced b) xs
 
   by-priced : (m : Manner) (n : ℕ) → takenBy m n (map (priced b) xs) ≡ takenBy m n xs
-  unfolding takenBy names priced
+  unfolding takenBy names priced pricedBy
   by-priced m n = sum-map _ (priced b) xs
 
   lowered-priced : (n : ℕ) (p : Position) → lowered (map (priced b) xs) n p ≡ lowered xs n p
@@ -281,35 +282,34 @@ module _ (b : Kept) (v : Valid b) (c : Cash) where
 
   module _ (sheet : ℕ) where
     pub cash-split : refusal (view b) (call (event.Cash c) sheet) ≡ first (lookupReasons sheet (b .positions .count) (c .position) ++ cashReasons settledShort (stepOn (plain.classOf (view b) (settledShort .security)) (b .day .0 - settledShort .settlement .0)) (plain.latestOf (view b) (settledShort .security)))
-    unfolding view stepToday
+    unfolding view stepToday reasons refusal
     cash-split =
-        cash-refusal-is (view b) sheet c
-        ∙ ap (λ (k : ℕ). first (lookupReasons sheet k (c .position) ++ cashReasons settledShort (stepOn (plain.classOf (view b) (settledShort .security)) (b .day .0 - settledShort .settlement .0)) (plain.latestOf (view b) (settledShort .security)))) (positions-many (b .positions) (v .fits .positions))
+        ap (λ (k : ℕ). first (lookupReasons sheet k (c .position) ++ cashReasons settledShort (stepOn (plain.classOf (view b) (settledShort .security)) (b .day .0 - settledShort .settlement .0)) (plain.latestOf (view b) (settledShort .security)))) (positions-many (b .positions) (v .fits .positions))
 
     pub cash-number : (p : Position) (class latest : ℕ) (today : Step) (number : ℕ)
-        → lookupRefusal sheet (b .positions .count) (c .position) ≡ 0 → p ≡ plain.nth plain.noPosition (table.positions (b .positions)) (c .position)
-        → class ≡ plain.nth 0 (b .register .classes) (p .security) → latest ≡ plain.nth 0 (b .prices .latest) (p .security)
-        → today ≡ stepOn class (b .day .0 - p .settlement .0) → number ≡ cashRefusal p today latest
+        → first (lookupReasons sheet (b .positions .count) (c .position)) ≡ 0 → p ≡ plain.nth plain.noPosition (table.positions (b .positions)) (c .position)
+        → class ≡ plain.nth 0 (b .opening .register .classes) (p .security) → latest ≡ plain.nth plain.noPrice (b .prices .latest) (p .security) .price
+        → today ≡ stepOn class (b .day .0 - p .settlement .0) → number ≡ first (cashReasons p today latest)
         → refusal (view b) (call (event.Cash c) sheet) ≡ number
-    unfolding view cashRefusal
+    unfolding view
     cash-number p class latest today number e same classed price step is =
         found-number sheet _ _ _ _ cash-split e ∙ sym (rw (step, price, classed, same) at is)
 
   pub cash-security : (p : Position) → Within 1 (b .positions .count) (c .position) → p ≡ plain.nth plain.noPosition (table.positions (b .positions)) (c .position) → Within 1 32 (p .security)
   unfolding view
   cash-security p h same =
-      let f = all-at (Fair (b .register .count) (b .day .0)) (table.positions (b .positions)) (c .position - 1) plain.noPosition (omega (arith, h .above, h .below, positions-many (b .positions) (v .fits .positions))) (v .sound .standing .fair) in
+      let f = nth-all plain.noPosition (Fair (b .opening .register .count) (b .day .0)) (table.positions (b .positions)) (c .position) (rw (positions-many (b .positions) (v .fits .positions)) h) (v .sound .standing .fair) in
       rw same (record { above = f .security .above; below = omega (arith, f .security .below, v .fits .register .high) })
 
   pub cash-terms : (p : Position) (class latest : ℕ)
-      → p ≡ plain.nth plain.noPosition (table.positions (b .positions)) (c .position) → class ≡ plain.nth 0 (b .register .classes) (p .security)
-      → latest ≡ plain.nth 0 (b .prices .latest) (p .security) → Terms (view b) (c .position) (p .unsettled) class latest
+      → p ≡ plain.nth plain.noPosition (table.positions (b .positions)) (c .position) → class ≡ plain.nth 0 (b .opening .register .classes) (p .security)
+      → latest ≡ plain.nth plain.noPrice (b .prices .latest) (p .security) .price → Terms (view b) (c .position) (p .unsettled) class latest
   unfolding view
   cash-terms p class latest same classed price =
       record {
         unsettled = ap (λ (q : Position). q .unsettled) same;
-        classed = classed ∙ ap (λ (q : Position). plain.nth 0 (b .register .classes) (q .security)) same;
-        latest = price ∙ ap (λ (q : Position). plain.nth 0 (b .prices .latest) (q .security)) same;
+        classed = classed ∙ ap (λ (q : Position). plain.nth 0 (b .opening .register .classes) (q .security)) same;
+        latest = price ∙ ap (λ (q : Position). plain.nth plain.noPrice (b .prices .latest) (q .security) .price) same;
       }
 
   module _ (k : Dischargeable b (event.Cash c)) (units class latest : ℕ) (t : Terms (view b) (c .position) units class latest) where
@@ -336,9 +336,9 @@ module _ (b : Kept) (v : Valid b) (c : Cash) where
       unfolding view
       cash-priceable =
           record {
-            price = rw (t .latest) (all-anywhere (λ p. p ≤ 10000000) (b .prices .latest) (settledShort .security - 1) 0 (omega arith) (v .sound .standing .prices .small));
+            price = rw (t .latest) (nth-anywhere plain.noPrice (λ l. l .price ≤ 10000000) (b .prices .latest) (settledShort .security) (omega arith) (v .sound .standing .prices .small));
             positions-fit = v .fits .positions;
-            references = all-references (b .register .count) (b .day .0) (table.positions (b .positions)) (v .sound .standing .fair);
+            references = all-references (b .opening .register .count) (b .day .0) (table.positions (b .positions)) (v .sound .standing .fair);
             pieces-fit = f .pieces-fit;
             paired = rw unpriced-is (paired-of (dealt (view b) manner.Cash (c .position) (settledShort .unsettled)) cash-deals);
           }
@@ -350,14 +350,13 @@ module _ (b : Kept) (v : Valid b) (c : Cash) where
             rw (t .classed, t .latest, unpriced-is) at (g .priced)
             ∙ priced-pieces (view b) (c .position) (dealt (view b) manner.Cash (c .position) (settledShort .unsettled)) (cash-deals .shorts)
 
-        charges-is : cashChargesBy x (b .positions) (c .position) latest ≡ charges (view b) (event.Cash c)
-        unfolding view charges
+        charges-is : cashChargesBy latest (table.positions (b .positions)) (c .position) (table.pieces x) ≡ charges (view b) (event.Cash c)
+        unfolding view charges cashCharges
         charges-is =
-            ap (λ (l : ℕ). cashChargesBy x (b .positions) (c .position) l) (t .latest)
-            ∙ cash-charges (view b) x (b .positions) (c .position) refl
+            ap (λ (l : ℕ). cashChargesBy l (table.positions (b .positions)) (c .position) (table.pieces x)) (t .latest)
             ∙ ap (λ (xs : List Piece). cashCharges (view b) (c .position) xs) priced-is
 
-        pub cash-room : Room (b .ledger) (cashChargesBy x (b .positions) (c .position) latest)
+        pub cash-room : Room (b .ledger) (cashChargesBy latest (table.positions (b .positions)) (c .position) (table.pieces x))
         cash-room = rw charges-is (charges-room b v (event.Cash c) k)
 
         cash-lowers : table.positions (r .positions) ≡ lowering (handsOut (view b) (event.Cash c)) (table.positions (b .positions))
@@ -367,7 +366,7 @@ module _ (b : Kept) (v : Valid b) (c : Cash) where
             ∙ ap (λ (u : ℕ). lowering (dealt (view b) manner.Cash (c .position) u) (table.positions (b .positions))) (t .unsettled)
             ∙ sym (lowering-priced (view b) (dealt (view b) manner.Cash (c .position) (settledShort .unsettled)) (table.positions (b .positions)))
 
-        pub settled : (l : Ledger) → l ≡ posted (b .ledger) (cashChargesBy x (b .positions) (c .position) latest) → Done b (event.Cash c) (after b (r .positions) (b .awards) l) units x
+        pub settled : (l : Ledger) → l ≡ posted (b .ledger) (cashChargesBy latest (table.positions (b .positions)) (c .position) (table.pieces x)) → Done b (event.Cash c) (after b (r .positions) (b .awards) l) units x
         unfolding view done discharged amount
         settled l posts =
             record {

@@ -9,16 +9,17 @@ use lib.ListN.{length, take, set, length-set, length-drop}
 use lib.Seq.{length-take-le, take-suc-set, drop-append-le}
 use borrow.Author.Tests.{leb-false, not-false}
 use Rattle.laws.specs.Asked.{within-low, within-high, within}
-use Rattle.laws.specs.Refusals.{none-applies}
+use Rattle.laws.specs.Refusals.{first, none-applies}
 use Rattle.events.specs.declared.Trade.{Trade}
 use Rattle.events.specs.declared.Price.{Price}
 use Rattle.events.specs.declared.Event.the-variants as event
-use Rattle.plain.specs.Calls.{call, done, withTrades}
-use Rattle.plain.specs.Refusals.{refusal}
+use Rattle.plain.specs.Changing as changing
+use Rattle.plain.specs.Calls.{call, done}
+use Rattle.plain.specs.Refusals.{refusal, tradeReasons, priceReasons, reasons}
 use Rattle.tables.specs.Tables.{Trades}
 use Rattle.tables.specs.Tables as table
 use Rattle.kept.specs.View.{Kept, view, Fits}
-use Rattle.refusals.specs.Entering.{tradeReasons, tradeRefusal, priceReasons, priceRefusal, trade-refusal-is, price-refusal-is}
+use Rattle.kept.specs.Changing.{withTrades, withPrices}
 
 -- the trades of earlier days and of today are all that the table holds
 pub all-held : (t : Trades) → table.TradesFit t → t .netted + length (table.today t) ≡ t .count
@@ -26,24 +27,25 @@ unfolding Rattle.tables.specs.Tables.today
 all-held t f =
     omega (arith, length-drop (t .netted) (take (t .count) (t .items)), length-take-le (t .count) (t .items) (omega (arith, f .places, f .held)), f .past)
 
-pub trade-number : (b : Kept) (t : Trade) → Fits b → refusal (view b) (call (event.Trade t) 0) ≡ tradeRefusal (b .register .count) (b .trades .count) t
-unfolding view
+pub trade-number : (b : Kept) (t : Trade) → Fits b → refusal (view b) (call (event.Trade t) 0) ≡ first (tradeReasons (b .opening .register .count) (b .trades .count) t)
+unfolding view reasons refusal
 trade-number b t f =
-    trade-refusal-is (view b) t 0 ∙ ap (λ (held : ℕ). tradeRefusal (b .register .count) held t) (all-held (b .trades) (f .trades))
+    ap (λ (held : ℕ). first (tradeReasons (b .opening .register .count) held t)) (all-held (b .trades) (f .trades))
 
-pub price-number : (b : Kept) (p : Price) → refusal (view b) (call (event.Price p) 0) ≡ priceRefusal (b .register .count) p
-unfolding view
-price-number b p = price-refusal-is (view b) p 0
+pub price-number : (b : Kept) (p : Price) → refusal (view b) (call (event.Price p) 0) ≡ first (priceReasons (b .opening .register .count) p)
+unfolding view reasons refusal
+price-number b p = refl
 
 -- a trade that is accepted finds a place, and a price its security
-pub trade-room : (securities held : ℕ) (t : Trade) → tradeRefusal securities held t ≡ 0 → held < 512
-unfolding tradeRefusal tradeReasons
-trade-room securities held t e = leb-false 512 held (none-applies (tradeReasons securities held t) refl e .1 .1 .1 .1 .1 .0)
+pub trade-room : (securities held : ℕ) (t : Trade) → first (tradeReasons securities held t) ≡ 0 → held < 512
+unfolding tradeReasons
+trade-room securities held t e = let h = none-applies (tradeReasons securities held t) refl e in leb-false 512 held (search)
 
-pub price-security : (securities : ℕ) (p : Price) → priceRefusal securities p ≡ 0 → (1 ≤ p .security) × (p .security ≤ securities)
-unfolding priceRefusal priceReasons
+pub price-security : (securities : ℕ) (p : Price) → first (priceReasons securities p) ≡ 0 → (1 ≤ p .security) × (p .security ≤ securities)
+unfolding priceReasons
 price-security securities p e =
-    let f : within 1 securities (p .security) ≡ true = not-false _ (none-applies (priceReasons securities p) refl e .0) in
+    let h = none-applies (priceReasons securities p) refl e in
+    let f : within 1 securities (p .security) ≡ true = not-false _ (search) in
     (within-low 1 securities (p .security) f, within-high 1 securities (p .security) f)
 
 -- the book with one more trade
@@ -51,8 +53,7 @@ abbrev pub moreTrades : Trades → Trade → Trades
 moreTrades ts t = record { items = set (ts .items) (ts .count) t; count = ts .count + 1; netted = ts .netted }
 
 abbrev pub withTrade : Kept → Trade → Kept
-withTrade b t =
-    record { register = b .register; day = b .day; trades = moreTrades (b .trades) t; prices = b .prices; positions = b .positions; auction = b .auction; awards = b .awards; marks = b .marks; ledger = b .ledger }
+withTrade b t = withTrades b (moreTrades (b .trades) t)
 
 module _ (ts : Trades) (t : Trade) (f : table.TradesFit ts) (room : ts .count < 512) where
   one-more : table.today (moreTrades ts t) ≡ table.today ts ++ t ∷ []
@@ -73,7 +74,7 @@ module _ (ts : Trades) (t : Trade) (f : table.TradesFit ts) (room : ts .count < 
 module _ (b : Kept) (t : Trade) (f : Fits b) (room : b .trades .count < 512) where
   pub trade-view : view (withTrade b t) ≡ done (view b) (event.Trade t)
   unfolding view done
-  trade-view = ap (λ (l : List Trade). withTrades (view b) l) (one-more (b .trades) t (f .trades) room)
+  trade-view = ap (λ (l : List Trade). changing.withTrades (view b) l) (one-more (b .trades) t (f .trades) room)
 
   pub trade-fits : Fits (withTrade b t)
   trade-fits =
@@ -89,8 +90,7 @@ module _ (b : Kept) (t : Trade) (f : Fits b) (room : b .trades .count < 512) whe
 
 -- the book with a security's latest price
 abbrev pub withPrice : Kept → Price → Kept
-withPrice b p =
-    record { register = b .register; day = b .day; trades = b .trades; prices = record { latest = set (b .prices .latest) (p .security - 1) (p .price) }; positions = b .positions; auction = b .auction; awards = b .awards; marks = b .marks; ledger = b .ledger }
+withPrice b p = withPrices b (record { latest = set (b .prices .latest) (p .security - 1) (record { price = p .price }) })
 
 pub price-view : (b : Kept) (p : Price) → view (withPrice b p) ≡ done (view b) (event.Price p)
 unfolding view done

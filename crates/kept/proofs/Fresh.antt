@@ -7,16 +7,17 @@ use lib.ListN.{length, replicate}
 use Rattle.register.specs.Accepted.{Registered}
 use Rattle.plain.specs.declared.Ledger.{Ledger}
 use Rattle.plain.specs.Book as plain
-use Rattle.plain.proofs.Sound.{Sound, new-sound}
-use Rattle.plain.proofs.Accounts.{Places, Balanced, new-places, new-balanced}
-use Rattle.plain.proofs.Bound.{Bound, new-bound}
+use Rattle.plain.specs.Sound.{Sound, Places, Balanced, Bound}
+use Rattle.plain.proofs.Sound.{new-sound}
+use Rattle.plain.proofs.Accounts.{new-places, new-balanced}
+use Rattle.plain.proofs.Bound.{new-bound}
 use Rattle.tables.specs.Tables.{today, positions, auction, awards, marks}
 use Rattle.kept.specs.View.{Kept, view, Fits, Valid}
 
 pub record Unused (b : Kept) : Type 0 where
-  pub day : b .day .0 ≡ 1
+  pub day : b .day .0 ≡ plain.firstDay (b .opening)
   pub trades : (b .trades .count ≡ 0) × (b .trades .netted ≡ 0) × (length (b .trades .items) ≡ 512)
-  pub prices : b .prices .latest ≡ replicate 32 0
+  pub prices : b .prices .latest ≡ replicate 32 plain.noPrice
   pub positions : (b .positions .count ≡ 0) × (length (b .positions .items) ≡ 1024)
   pub auction : (b .auction .position ≡ 0) × (b .auction .ceiling ≡ 0) × (b .auction .count ≡ 0) × (length (b .auction .offers) ≡ 16)
   pub awards : (b .awards .count ≡ 0) × (length (b .awards .items) ≡ 256)
@@ -27,16 +28,16 @@ ledger-of : (l : Ledger) (credits debits : List ℕ) → l .credits ≡ credits 
 ledger-of l credits debits c d = rw (← c, ← d)
 
 module _ (b : Kept) (u : Unused b) where
-  pub unused-view : view b ≡ plain.new (b .register)
+  pub unused-view : view b ≡ plain.new (b .opening)
   unfolding view Rattle.plain.specs.Book.new today positions auction awards marks
   unused-view =
       rw (u .day, u .trades .1, u .trades .0, u .prices, u .positions .0, u .auction .0, u .auction .1, u .auction .2, u .awards .0, u .marks .0, ledger-of (b .ledger) (replicate 64 0) (replicate 64 0) (u .ledger .0) (u .ledger .1))
 
-  same-ledger : b .ledger ≡ plain.new (b .register) .ledger
+  same-ledger : b .ledger ≡ plain.new (b .opening) .ledger
   unfolding view
   same-ledger = ap (λ (x : plain.Book). x .ledger) unused-view
 
-  unused-fits : Registered (b .register) → Fits b
+  unused-fits : Registered (b .opening .register) → Fits b
   unused-fits r =
       record {
         register = r;
@@ -45,14 +46,14 @@ module _ (b : Kept) (u : Unused b) where
         auction = record { places = u .auction .3; held = omega (arith, u .auction .2) };
         awards = record { places = u .awards .1; held = omega (arith, u .awards .0) };
         marks = record { places = u .marks .1; held = omega (arith, u .marks .0) };
-        places = subst Places (sym same-ledger) (new-places (b .register));
+        places = subst Places (sym same-ledger) (new-places (b .opening));
       }
 
-  pub unused-valid : Registered (b .register) → Valid b
+  pub unused-valid : Registered (b .opening .register) → Valid b
   unused-valid r =
       record {
         fits = unused-fits r;
-        sound = subst Sound (sym unused-view) (new-sound (b .register));
-        balanced = subst Balanced (sym same-ledger) (new-balanced (b .register));
-        bound = subst Bound (sym unused-view) (new-bound (b .register));
+        sound = subst Sound (sym unused-view) (new-sound (b .opening));
+        balanced = subst Balanced (sym same-ledger) (new-balanced (b .opening));
+        bound = subst Bound (sym unused-view) (new-bound (b .opening));
       }

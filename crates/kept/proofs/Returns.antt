@@ -4,9 +4,10 @@ use Rattle.plain.specs.Book as plain
 use Rattle.plain.specs.Calls.{Call, done}
 use Rattle.plain.specs.Refusals.{refusal}
 use Rattle.plain.specs.Histories.{eventOf}
-use Rattle.plain.proofs.Sound.{Sound, done-sound, sound-dealt}
-use Rattle.plain.proofs.Accounts.{Balanced, done-balanced}
-use Rattle.plain.proofs.Bound.{Bound, done-bound}
+use Rattle.plain.specs.Sound.{Sound, Balanced, Bound}
+use Rattle.plain.proofs.Sound.{done-sound, sound-dealt}
+use Rattle.plain.proofs.Accounts.{done-balanced}
+use Rattle.plain.proofs.Bound.{done-bound}
 use Rattle.plain.proofs.Claim.{bounding, accountable}
 use Rattle.kept.specs.View.{Kept, view, Fits, Valid}
 

@@ -1,6 +1,7 @@
 -- What a discharge does that nothing turns down.
 use Prim.Native.Nat.{ℕ}
 use mathlib.Core.Path.{_≡_}
+use Rattle.laws.specs.Limits.{PLACES}
 use Rattle.events.specs.declared.Event.{Event}
 use Rattle.plain.specs.Book as plain
 use Rattle.plain.specs.Calls.{call, handsOut, amount, done}
@@ -12,7 +13,7 @@ use Rattle.kept.specs.View.{Kept, view, Fits, Valid}
 -- a discharge that nothing turns down, whatever sheet of 1,024 places or more is lent
 pub record Dischargeable (b : Kept) (e : Event) : Type 0 where
   pub valid : Valid b
-  pub taken : refusal (view b) (call e 1024) ≡ 0
+  pub taken : refusal (view b) (call e PLACES) ≡ 0
 
 -- what a cash settlement of position n goes by: all that is open, and the class and the latest price of its security
 pub record Terms (b : plain.Book) (n units class price : ℕ) : Type 0 where

@@ -1,4 +1,5 @@
 pub mod View
+pub mod Changing
 pub mod Auctions
 pub mod Closing
 pub mod Discharging

@@ -1,15 +1,13 @@
 -- The machine's book as one record: what it stands for, and what holds of every book that the calls leave.
 use Prim.Native.Nat.{ℕ, zero, suc}
 use Rattle.laws.specs.declared.BusinessDay.{BusinessDay}
-use Rattle.register.specs.declared.Register.{Register}
 use Rattle.register.specs.Accepted.{Registered}
+use Rattle.plain.specs.declared.Opening.{Opening}
 use Rattle.plain.specs.declared.Ledger.{Ledger}
 use Rattle.plain.specs.declared.Outcome.{Outcome}
 use Rattle.plain.specs.declared.Outcome.the-variants as outcome
 use Rattle.plain.specs.Book as plain
-use Rattle.plain.proofs.Sound.{Sound}
-use Rattle.plain.proofs.Accounts.{Places, Balanced}
-use Rattle.plain.proofs.Bound.{Bound}
+use Rattle.plain.specs.Sound.{Sound, Places, Balanced, Bound}
 use Rattle.tables.specs.declared.Prices.{Prices}
 use Rattle.tables.specs.declared.Auction.{Auction}
 use Rattle.tables.specs.declared.Marks.{Marks}
@@ -17,7 +15,7 @@ use Rattle.tables.specs.Tables as table
 
 -- the parts that a book keeps: each table with the number of its places in use
 pub record Kept : Type 0 where
-  pub register : Register
+  pub opening : Opening
   pub day : BusinessDay
   pub trades : table.Trades
   pub prices : Prices
@@ -31,7 +29,7 @@ pub record Kept : Type 0 where
 unfoldable pub view : Kept → plain.Book
 view b =
     record {
-      register = b .register;
+      opening = b .opening;
       day = b .day .0;
       past = b .trades .netted;
       trades = table.today (b .trades);
@@ -45,7 +43,7 @@ view b =
 
 -- the tables have their places, and their counts are within them
 pub record Fits (b : Kept) : Type 0 where
-  pub register : Registered (b .register)
+  pub register : Registered (b .opening .register)
   pub trades : table.TradesFit (b .trades)
   pub positions : table.PositionsFit (b .positions)
   pub auction : table.AuctionFits (b .auction)

@@ -19,6 +19,24 @@ module _ {A : Type 0} where
   padded-none z zero = refl
   padded-none z (suc n) = ap (λ (k : List A). z ∷ k) (padded-none z n)
 
+  pub length-padded : (z : A) (n : ℕ) (l : List A) → length (padded z n l) ≡ n
+  length-padded z zero l = refl
+  length-padded z (suc n) [] = ap suc (length-padded z n [])
+  length-padded z (suc n) (x ∷ l) = ap suc (length-padded z n l)
+
+  pub getD-padded : (z : A) (n : ℕ) (l : List A) (i : ℕ) → i < n → getD (padded z n l) i z ≡ getD l i z
+  getD-padded z zero l i h = absurd (omega arith)
+  getD-padded z (suc n) [] zero h = refl
+  getD-padded z (suc n) [] (suc i) h = getD-padded z n [] i (omega arith)
+  getD-padded z (suc n) (x ∷ l) zero h = refl
+  getD-padded z (suc n) (x ∷ l) (suc i) h = getD-padded z n l i (omega arith)
+
+  -- a list of no more than n elements, copied over the first of n times z
+  pub padded-copied : (z : A) (n : ℕ) (l : List A) → length l ≤ n → l ++ drop (length l) (replicate n z) ≡ padded z n l
+  padded-copied z n [] h = sym (padded-none z n)
+  padded-copied z zero (x ∷ l) h = absurd (omega arith)
+  padded-copied z (suc n) (x ∷ l) h = ap (λ (k : List A). x ∷ k) (padded-copied z n l (omega arith))
+
   -- one element more is stored
   pub padded-more : (z : A) (n i : ℕ) (l : List A) → i < n → set (padded z n (take i l)) i (getD l i z) ≡ padded z n (take (suc i) l)
   padded-more z zero i l h = absurd (omega arith)

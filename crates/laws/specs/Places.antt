@@ -1,12 +1,12 @@
 -- Places of lists: a list read from a place on, a range read from a number on, a test that two lists are the same.
 use Prim.Native.Nat.{ℕ, zero, suc, _+_, _-_, _≤_, _<_}
-use native.Mathlib.Nat.{add-zero, zero-sub, sub-zero}
+use native.Mathlib.Nat.{add-zero}
 use native.Mathlib.Numerals.{add-one}
 use native.Mathlib.Omega.{arith}
 use mathlib.Core.Path.{_≡_, refl, ap, _∙_}
 use mathlib.Core.List.{List, [], _∷_}
 use mathlib.Core.Bool.{Bool, true, false, _&&_, false≢true}
-use lib.ListN.{length, getD, drop, replicate, drop-of-length-le}
+use lib.ListN.{length, getD, drop, drop-of-length-le}
 use lib.Seq.{drop-cons}
 use lib.Dec.{eqb}
 use borrow.Author.Tests.{eqb-true, eq-eqb}
@@ -17,13 +17,6 @@ use Rattle.laws.specs.Asked.{Said, passed, failed, ask, and-left, and-ri
 module _ {A : Type 0} where
   pub drop-at : (l : List A) (i : ℕ) (d : A) → i < length l → drop i l ≡ getD l i d ∷ drop (i + 1) l
   drop-at l i d h = rw (add-one) (drop-cons l i d h)
-
-  pub drop-replicate : (k n : ℕ) (a : A) → drop k (replicate n a) ≡ replicate (n - k) a
-  drop-replicate zero n a = rw sub-zero
-  drop-replicate (suc k) zero a = rw zero-sub
-  drop-replicate (suc k) (suc n) a =
-      let e : n - k ≡ suc n - suc k = omega arith in
-      drop-replicate k n a ∙ ap (λ (m : ℕ). replicate m a) e
 
 -- a test of every element, from a place on
 pub every-at : (p : ℕ → Bool) (l : List ℕ) (i : ℕ) → i < length l → every p (drop i l) ≡ p (getD l i 0) && every p (drop (i + 1) l)

@@ -11,8 +11,9 @@ use Rattle.laws.specs.Alls.{all-at}
 use Rattle.plain.specs.declared.Position.{Position}
 use Rattle.plain.specs.declared.Piece.{Piece}
 use Rattle.plain.specs.declared.Manner.the-variants.{Delivered}
+use Rattle.plain.proofs.Numbered.{nth-take}
 use Rattle.plain.specs.Book.{noPosition, nth}
-use Rattle.plain.proofs.Accepted.{Within}
+use Rattle.laws.specs.Asked.{Within}
 use Rattle.tables.specs.Tables.{Positions, positions, PositionsFit}
 
 -- what stands where no piece is
@@ -50,4 +51,4 @@ module _ (p : Positions) (fit : PositionsFit p) where
 -- "Positions are numbered from 1"
 pub position-at : (p : Positions) (n : ℕ) → Within 1 (p .count) n → nth noPosition (positions p) n ≡ getD (p .items) (n - 1) noPosition
 unfolding positions
-position-at p n h = getD-take (p .count) (p .items) (n - 1) noPosition (omega (arith, h .above, h .below))
+position-at p n h = nth-take noPosition (p .items) (p .count) n h

@@ -1,20 +1,30 @@
 -- The fines of a close, by the numbers that they are worked out from.
-use Prim.Native.Nat.{ℕ, _*_}
-use mathlib.Core.Path.{_≡_}
-use mathlib.Core.List.{[], _∷_}
+use Prim.Native.Nat.{ℕ, _-_, _*_, _≤_}
+use mathlib.Core.Path.{_≡_, ap, sym}
+use mathlib.Core.List.{List, [], _∷_}
 use mathlib.Core.Bool.{Bool, true, false, not, _&&_}
+use lib.ListN.{getD}
 use lib.Dec.{ltb, eqb}
 use Rattle.rules.specs.Charges.{awardFine, lateFine}
 use Rattle.register.specs.declared.Register.{Register}
 use Rattle.plain.specs.declared.Position.{Position}
 use Rattle.plain.specs.declared.Award.{Award}
 use Rattle.plain.specs.declared.Ledger.{Ledger}
-use Rattle.plain.specs.Book.{Book, positionOf, classOf, latestOf}
+use Rattle.plain.specs.declared.Latest.{Latest}
+use Rattle.plain.specs.Book.{Book, noPrice, nth, positionOf, classOf, latestOf}
+use Rattle.plain.proofs.Numbered.{nth-at}
 use Rattle.plain.specs.Dealing.{due}
 use Rattle.plain.specs.Charging.{posted, credited, debited, awardFines, lateFines}
 use Rattle.tables.specs.Tables.{Positions, Awards, awards}
 use Rattle.tables.specs.declared.Prices.{Prices}
 use Rattle.ledger.specs.Parts.{awardFinesOf}
+
+-- the class and the latest price of a security, as they are read at its place
+pub class-read : (classes : List ℕ) (s : ℕ) → 1 ≤ s → getD classes (s - 1) 0 ≡ nth 0 classes s
+class-read classes s h = sym (nth-at 0 classes s h)
+
+pub latest-read : (prices : List Latest) (s : ℕ) → 1 ≤ s → getD prices (s - 1) noPrice .price ≡ nth noPrice prices s .price
+latest-read prices s h = ap (λ (l : Latest). l .price) (sym (nth-at noPrice prices s h))
 
 -- an award on a position whose security has this latest price; `fined` is what the test said
 module _

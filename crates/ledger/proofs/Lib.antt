@@ -1,3 +1,4 @@
+pub mod Posts
 pub mod Elements
 pub mod Posting
 pub mod Fines

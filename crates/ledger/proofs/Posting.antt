@@ -10,7 +10,8 @@ use Rattle.rules.specs.declared.Amount.{Amount}
 use Rattle.rules.specs.declared.Amount.the-variants.{Debit, Credit}
 use Rattle.plain.specs.declared.Ledger.{Ledger}
 use Rattle.plain.specs.Charging.{Charge, raise, credited, debited, posted, charge}
-use Rattle.ledger.specs.Posts.{Room, room-then}
+use Rattle.ledger.proofs.Posts.{room-then}
+use Rattle.ledger.specs.Posts.{Room}
 use Rattle.ledger.proofs.Elements.{ahead-at, ahead-end}
 
 pub record Posting (before : Ledger) (all ahead : List Charge) (l : Ledger) : Type 0 where

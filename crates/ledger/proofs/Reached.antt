@@ -2,7 +2,7 @@
 use Prim.Native.Nat.{ℕ, _≤_, _<_}
 use native.Mathlib.Omega.{arith}
 use mathlib.Core.Path.{_≡_, ap}
-use mathlib.Core.List.{List, [], _∷_, map}
+use mathlib.Core.List.{List}
 use mathlib.Core.Bool.{true}
 use lib.ListN.{length}
 use lib.Seq.{length-take-le}
@@ -15,13 +15,12 @@ use Rattle.plain.specs.declared.Piece.{Piece}
 use Rattle.plain.specs.declared.Manner.{Manner}
 use Rattle.plain.specs.declared.Ledger.{Ledger}
 use Rattle.plain.specs.Book.{Book}
-use Rattle.plain.specs.Charging.{Charge, posted, priced}
+use Rattle.plain.specs.Charging.{Charge, posted}
 use Rattle.plain.specs.Calls.{charges, done}
-use Rattle.plain.proofs.Invariants.{Fair, AwardFits, DueLong, Deals}
-use Rattle.plain.proofs.Accounts.{cents, Places, Booked, Balanced, Accountable, posts-credits, posted-total, done-ledger, booked}
-use Rattle.plain.proofs.Awards.{marked, mark-of}
-use Rattle.plain.proofs.AwardSteps.{AuctionedBook}
-use Rattle.plain.proofs.Bound.{Bound}
+use Rattle.plain.specs.Invariants.{Fair, AwardFits, DueLong, Deals}
+use Rattle.plain.proofs.Accounts.{Accountable, posts-credits, posted-total, done-ledger, booked}
+use Rattle.plain.specs.Sound.{marked, AuctionedBook, cents, Places, Booked, Balanced, Bound}
+use Rattle.plain.proofs.Awards.{mark-of}
 use Rattle.tables.specs.Tables.{Positions, positions, PositionsFit}
 use Rattle.ledger.specs.Posts.{Room}
 use Rattle.ledger.specs.Tabled.{Accounted, Awarded, Paired}

@@ -12,9 +12,8 @@ use lib.Dec.{eqb}
 use Rattle.rules.specs.Prices.{raised, cashPrice}
 use Rattle.plain.specs.declared.Piece.{Piece}
 use Rattle.plain.specs.Book.{noPosition}
-use Rattle.plain.specs.Charging.{payment}
+use Rattle.plain.specs.Charging.{payment, pricedBy}
 use Rattle.tables.specs.Tables.{Positions, positions}
-use Rattle.ledger.specs.Parts.{pricedBy}
 use Rattle.ledger.specs.Tabled.{Paired}
 use Rattle.ledger.proofs.Elements.{ahead-at, ahead-end, position-at}
 use Prim.Native.Nat.{ℕ, _-_, _*_}
@@ -27,7 +26,6 @@ use Rattle.plain.specs.declared.Manner.the-variants.{Cash}
 use Rattle.plain.specs.Charging.{payment}
 use Rattle.tables.specs.Tables.{Positions, positions}
 use Rattle.pieces.specs.Sheet.{unpriced, withCents}
-use Rattle.ledger.specs.Parts.{pricedBy}
 use Rattle.ledger.proofs.Elements.{position-at}
 use Rattle.ledger.specs.Settling.{paymentBy, Owed}
 

@@ -1,31 +1,25 @@
 -- A cash settlement on the lent sheet, by the positions as its dealing left them: of these only members and references are gone by.
-use Prim.Native.Nat.{ℕ, _*_, _≤_, _<_}
+use Prim.Native.Nat.{ℕ, _≤_, _<_}
 use mathlib.Core.Path.{_≡_}
 use mathlib.Core.List.{List, [], _∷_}
+use Rattle.laws.specs.Limits.{ACCOUNTS, MOST-PRICE}
 use Rattle.laws.specs.Lists.{All, each}
-use Rattle.rules.specs.Charges.{cashFee}
-use Rattle.register.specs.Register.{emptyRegister}
 use Rattle.plain.specs.declared.Position.{Position}
 use Rattle.plain.specs.declared.Piece.{Piece}
 use Rattle.plain.specs.declared.Ledger.{Ledger}
 use Rattle.plain.specs.Book.{noPosition, nth}
-use Rattle.plain.specs.Charging.{Charge, payment}
+use Rattle.plain.specs.Charging.{Charge, payment, pricedBy}
 use Rattle.tables.specs.Tables.{Positions, positions, pieces}
 use Rattle.tables.specs.declared.Pieces.{Pieces}
 use Rattle.ledger.specs.Posts.{Room}
-use Rattle.ledger.specs.Parts.{bookOf, pricedBy}
 use Rattle.ledger.specs.Tabled.{Accounted, Priceable}
 
 -- the payment of a piece that is priced first
 abbrev pub paymentBy : ℕ → ℕ → Positions → Piece → List Charge
-paymentBy class latest p x = payment (bookOf emptyRegister 0 [] (positions p)) (pricedBy class latest (positions p) x) ∷ []
+paymentBy class latest p x = payment (positions p) (pricedBy class latest (positions p) x) ∷ []
 
 unfoldable pub paymentsBy : ℕ → ℕ → Positions → Pieces → List Charge
 paymentsBy class latest p xs = each (paymentBy class latest p) (pieces xs)
-
--- the fee of a short, by what is open of it before the settlement
-abbrev pub feeOf : Position → ℕ → Charge
-feeOf short latest = record { payer = short .member; payee = 0; cents = cashFee (short .unsettled * latest) }
 
 -- a piece's short has the member and the reference price of the position given
 pub record Owed (p : Positions) (short : Position) (x : Piece) : Type 0 where
@@ -38,5 +32,5 @@ pub record Settleable (l : Ledger) (cs : List Charge) (p : Positions) (xs : Piec
   pub priceable : Priceable xs p latest
   pub accounted : All Accounted (positions p)
   pub owed : All (Owed p short) (pieces xs)
-  pub payer : short .member < 64
-  pub reference : short .reference ≤ 10000000
+  pub payer : short .member < ACCOUNTS
+  pub reference : short .reference ≤ MOST-PRICE

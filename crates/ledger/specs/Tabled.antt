@@ -2,6 +2,7 @@
 use Prim.Native.Nat.{ℕ, _≤_, _<_}
 use mathlib.Core.Path.{_≡_}
 use mathlib.Core.List.{[], _∷_, map}
+use Rattle.laws.specs.Limits.{ACCOUNTS, MOST-PRICE, SECURITIES}
 use Rattle.laws.specs.declared.BusinessDay.{BusinessDay}
 use Rattle.laws.specs.Lists.{All}
 use Rattle.register.specs.declared.Register.{Register}
@@ -9,14 +10,14 @@ use Rattle.plain.specs.declared.Position.{Position}
 use Rattle.plain.specs.declared.Piece.{Piece}
 use Rattle.plain.specs.declared.Award.{Award}
 use Rattle.plain.specs.declared.Ledger.{Ledger}
-use Rattle.plain.specs.Charging.{Charge}
-use Rattle.plain.proofs.Accepted.{Within}
-use Rattle.plain.proofs.Accounts.{Booked}
+use Rattle.plain.specs.Charging.{Charge, pricedBy}
+use Rattle.laws.specs.Asked.{Within}
+use Rattle.plain.specs.Sound.{Booked}
 use Rattle.tables.specs.Tables.{Positions, Awards, positions, pieces, awards, PositionsFit, PiecesFit, AwardsFit}
 use Rattle.tables.specs.declared.Prices.{Prices}
 use Rattle.tables.specs.declared.Pieces.{Pieces}
 use Rattle.ledger.specs.Posts.{Room}
-use Rattle.ledger.specs.Parts.{awardFinesOf, lateFinesOf, closeChargesOf, pricedBy}
+use Rattle.ledger.specs.Parts.{awardFinesOf, lateFinesOf, closeChargesOf}
 
 -- what posting one charge asks
 pub record Chargeable (l : Ledger) (c : Charge) : Type 0 where
@@ -25,12 +26,12 @@ pub record Chargeable (l : Ledger) (c : Charge) : Type 0 where
 
 -- a position's account is there, and its security has a place in the register and among the prices
 pub record Accounted (p : Position) : Type 0 where
-  pub member : p .member < 64
-  pub security : Within 1 32 (p .security)
+  pub member : p .member < ACCOUNTS
+  pub security : Within 1 SECURITIES (p .security)
 
 -- an award's offerer has an account, and the award is on one of so many positions
 pub record Awarded (held : ℕ) (a : Award) : Type 0 where
-  pub offerer : a .offerer < 64
+  pub offerer : a .offerer < ACCOUNTS
   pub position : Within 1 held (a .position)
 
 -- what posting the fines of awards asks, and posting the late fines
@@ -60,9 +61,9 @@ pub record Paired (held : ℕ) (x : Piece) : Type 0 where
 
 -- what pricing pieces asks and gives; places past the count are free
 pub record Priceable (xs : Pieces) (p : Positions) (latest : ℕ) : Type 0 where
-  pub price : latest ≤ 10000000
+  pub price : latest ≤ MOST-PRICE
   pub positions-fit : PositionsFit p
-  pub references : All (λ q. q .reference ≤ 10000000) (positions p)
+  pub references : All (λ q. q .reference ≤ MOST-PRICE) (positions p)
   pub pieces-fit : PiecesFit xs
   pub paired : All (Paired (p .count)) (pieces xs)
 

@@ -6,14 +6,16 @@ ghost use mathlib.Core.List.{[], _∷_, _++_};
 ghost use Prim.Native.Nat.{_+_, _<_, _≤_};
 ghost use lib.Dec.{eqb, ltb};
 ghost use lib.ListN.{length, getD};
+ghost use Rattle.laws.specs.Limits.{ACCOUNTS};
 ghost use Rattle.rules.specs.Charges.{buyInCharge};
 ghost use Rattle.plain.specs.declared.Manner.the-variants.{Cash};
-ghost use Rattle.plain.specs.Charging.{raise, posted, charge};
+ghost use Rattle.plain.specs.Charging.{raise, posted, charge, feeOf};
 ghost use Rattle.plain.specs.Dealing.{due};
 ghost use Rattle.ledger.specs.Parts.{awardFinesOf, lateFinesOf, closeChargesOf};
 ghost use Rattle.ledger.specs.Tabled.{Chargeable, AwardsFinable, LateFinable, CloseFinable, Priced};
 ghost use Rattle.tables.specs.Lent.{positionTable, awardTable, pieceTable};
-ghost use Rattle.ledger.specs.Settling.{paymentsBy, feeOf, Settleable};
+ghost use Rattle.ledger.specs.Settling.{paymentsBy, Settleable};
+use laws::ACCOUNTS;
 use laws::BusinessDay;
 use plain::Ledger;
 use plain::Position;
@@ -24,8 +26,8 @@ use tables::Prices;
 const HOUSE: u8 = 0;
 
 // One column of the ledger, lent.
-fn raise_place(column: &mut [u64; 64], account: u8, cents: u64)
-    requires { ⌜ (account < 64) × (getD (now column) account 0 + cents ≤ 18446744073709551615) ⌝ }
+fn raise_place(column: &mut [u64; ACCOUNTS], account: u8, cents: u64)
+    requires { ⌜ (account < ACCOUNTS) × (getD (now column) account 0 + cents ≤ 18446744073709551615) ⌝ }
     ensures { λ r. ⌜ now (column .exit) ≡ raise (now (column .entry)) account cents ⌝ }
 {
     let k = account as usize;
@@ -96,7 +98,8 @@ pub fn post_award_fines(
         let place = (award.position - 1) as usize;
         let short = rows::row_at(rows, place);
         let k = (short.security - 1) as usize;
-        let latest = prices.latest[k];
+        let quoted = prices.latest[k];
+        let latest = quoted.price;
         if award_is_fined(award.confirmed, latest) {
             let class = register.classes[k];
             let fine = rules::award_fine(class, rules::value_of(award.quantity, latest));
@@ -125,7 +128,8 @@ pub fn post_late_fines(
         let short = rows::row_at(rows, i);
         let k = (short.security - 1) as usize;
         let class = register.classes[k];
-        let latest = prices.latest[k];
+        let quoted = prices.latest[k];
+        let latest = quoted.price;
         if short_is_fined(short, class, latest, day) {
             let fine = rules::late_fine(rules::value_of(short.unsettled, latest));
             raise_place(&mut after.credits, HOUSE, fine);

@@ -11,14 +11,14 @@ use Rattle.laws.specs.Alls.{all-of}
 use Rattle.laws.specs.declared.BusinessDay.{BusinessDay}
 use Rattle.plain.specs.declared.Position.{Position}
 use Rattle.plain.specs.Netting.{keys, netted}
-use Rattle.plain.proofs.Invariants.{TradeFits}
+use Rattle.plain.specs.Invariants.{TradeFits}
 use Rattle.plain.proofs.Netted.{netted-count, keys-once}
 use Rattle.rows.proofs.Cells.{length-rows}
 use Rattle.tables.specs.Tables.{Trades, Positions, today, positions}
 use Rattle.netting.specs.declared.Side.the-variants.{Sale, Purchase}
 use Rattle.netting.specs.declared.Total.{Total}
 use Rattle.netting.specs.Gathering.{keyFor, totalIn, Gatherable, Gathered}
-use Rattle.netting.specs.Members.{netOf, netIn, nettedBy, memberKeys, Appended}
+use Rattle.netting.specs.Members.{netFrom, netIn, nettedBy, memberKeys, Appended}
 use Rattle.netting.specs.Netting.{DayFits, DayNetted}
 use Rattle.tables.specs.Lent.{positionTable}
 use Rattle.rows.specs.Rows.{rowsOf}
@@ -83,7 +83,7 @@ module _ (day : ℕ) (totals : List Total) (member securities : ℕ) where
 
   -- the position of the next security, or none
   pub member-next : (security : ℕ) → security ≤ securities → (bought sold : Total) → bought ≡ totalIn totals Purchase (keyFor member security) → sold ≡ totalIn totals Sale (keyFor member security)
-      → (ps : List Position) → netOf day (keyFor member security) bought sold ≡ ps
+      → (ps : List Position) → netFrom day (keyFor member security) bought sold ≡ ps
       → (whole : List Position) (n : ℕ) (l : List Position) → Filling whole (memberFrom security) n l → Filling whole (ps ++ memberFrom (security + 1)) n l
   unfolding nettedBy
   member-next security h bought sold b s ps e whole n l f =

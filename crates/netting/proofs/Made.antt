@@ -9,28 +9,29 @@ use borrow.Author.Tests.{lt-ltb, le-ltb}
 use Rattle.laws.specs.Lists.{each, All}
 use Rattle.events.specs.declared.Trade.{Trade}
 use Rattle.plain.specs.declared.Position.{Position}
-use Rattle.plain.specs.Netting.{Key, keys, made, net, netted}
-use Rattle.plain.proofs.Netted.{KeyFits, netted-count, keys-once, keys-fit}
+use Rattle.plain.specs.Netting.{Key, keys, made, netOf, net, netted}
+use Rattle.plain.specs.Invariants.{KeyFits}
+use Rattle.plain.proofs.Netted.{netted-count, keys-once, keys-fit}
 use Rattle.tables.specs.Tables.{Trades, today}
 use Rattle.netting.specs.declared.Side.the-variants.{Sale, Purchase}
 use Rattle.netting.specs.declared.Total.{Total}
 use Rattle.netting.specs.Gathering.{totalOf, Gathered}
-use Rattle.netting.specs.Members.{netOf, netIn, nettedBy}
+use Rattle.netting.specs.Members.{netFrom, netIn, nettedBy}
 
 module _ (day : ℕ) (k : Key) (bought sold : Total) where
-  pub net-short : bought .units < sold .units → netOf day k bought sold ≡ made day k true (sold .units - bought .units) (sold .highest) ∷ []
+  pub net-short : bought .units < sold .units → netFrom day k bought sold ≡ made day k true (sold .units - bought .units) (sold .highest) ∷ []
   unfolding netOf
   net-short h = rw (lt-ltb (bought .units) (sold .units) h, le-ltb (sold .units) (bought .units) (omega arith))
 
-  pub net-long : sold .units < bought .units → netOf day k bought sold ≡ made day k false (bought .units - sold .units) (bought .highest) ∷ []
+  pub net-long : sold .units < bought .units → netFrom day k bought sold ≡ made day k false (bought .units - sold .units) (bought .highest) ∷ []
   unfolding netOf
   net-long h = rw (le-ltb (bought .units) (sold .units) (omega arith), lt-ltb (sold .units) (bought .units) h)
 
-  pub net-none : bought .units ≡ sold .units → netOf day k bought sold ≡ []
+  pub net-none : bought .units ≡ sold .units → netFrom day k bought sold ≡ []
   unfolding netOf
   net-none e = rw (le-ltb (bought .units) (sold .units) (omega arith), le-ltb (sold .units) (bought .units) (omega arith))
 
-net-of : (day : ℕ) (trades : List Trade) (k : Key) → net day trades k ≡ netOf day k (totalOf Purchase k trades) (totalOf Sale k trades)
+net-of : (day : ℕ) (trades : List Trade) (k : Key) → net day trades k ≡ netFrom day k (totalOf Purchase k trades) (totalOf Sale k trades)
 unfolding net netOf
 net-of day trades k = refl
 

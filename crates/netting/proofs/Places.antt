@@ -4,7 +4,7 @@ use native.Mathlib.Omega.{arith}
 use mathlib.Core.Path.{_≡_, ap, _∙_}
 use mathlib.Core.Logic.{_≢_}
 use Rattle.plain.specs.Netting.{Key}
-use Rattle.plain.proofs.Netted.{KeyFits}
+use Rattle.plain.specs.Invariants.{KeyFits}
 use Rattle.netting.specs.declared.Side.{Side}
 use Rattle.netting.specs.declared.Side.the-variants.{Sale, Purchase}
 use Rattle.netting.specs.Gathering.{keyFor, placeOf}

@@ -17,8 +17,8 @@ use Rattle.laws.specs.Asked.{Said, passed, failed, ask, and-left, and-right, bo
 use Rattle.events.specs.declared.Trade.{Trade}
 use Rattle.rows.specs.Rows.{noTrade}
 use Rattle.plain.specs.Netting.{Key, units, highest}
-use Rattle.plain.proofs.Invariants.{TradeFits}
-use Rattle.plain.proofs.Netted.{KeyFits, units-le}
+use Rattle.plain.specs.Invariants.{TradeFits, KeyFits}
+use Rattle.plain.proofs.Netted.{units-le}
 use Rattle.tables.specs.Tables.{Trades, today}
 use Rattle.netting.specs.declared.Side.{Side}
 use Rattle.netting.specs.declared.Side.the-variants.{Sale, Purchase}

@@ -5,12 +5,12 @@ use mathlib.Core.List.{List}
 use mathlib.Core.Bool.{Bool, _&&_}
 use lib.ListN.{length, getD, set, replicate}
 use lib.Dec.{eqb}
+use Rattle.laws.specs.Limits.{MOST-NETTED, MOST-QUANTITY, SECURITIES}
 use Rattle.laws.specs.Lists.{All}
 use Rattle.cells.specs.Table.{tableFrom}
 use Rattle.events.specs.declared.Trade.{Trade}
 use Rattle.plain.specs.Netting.{Key, units, highest}
-use Rattle.plain.proofs.Invariants.{TradeFits}
-use Rattle.plain.proofs.Netted.{KeyFits}
+use Rattle.plain.specs.Invariants.{TradeFits, KeyFits}
 use Rattle.tables.specs.Tables.{Trades, today, TradesFit}
 use Rattle.netting.specs.declared.Side.{Side}
 use Rattle.netting.specs.declared.Side.the-variants.{Sale, Purchase}
@@ -39,7 +39,7 @@ sideNumber Sale = 0
 sideNumber Purchase = 1
 
 unfoldable pub placeOf : Side → Key → ℕ
-placeOf side k = 2 * (32 * (k .member - 1) + (k .security - 1)) + sideNumber side
+placeOf side k = 2 * (SECURITIES * (k .member - 1) + (k .security - 1)) + sideNumber side
 
 abbrev pub totalIn : List Total → Side → Key → Total
 totalIn totals side k = getD totals (placeOf side k) noTotal
@@ -67,21 +67,21 @@ raised side t totals = set totals (placeOf side (keyOf side t)) (added t (totalI
 
 -- the totals are those of the trades
 abbrev pub Totalled : Side → List Trade → List Total → Type 0
-Totalled side trades totals = (k : Key) → KeyFits 32 k → totalIn totals side k ≡ totalOf side k trades
+Totalled side trades totals = (k : Key) → KeyFits SECURITIES k → totalIn totals side k ≡ totalOf side k trades
 
 -- what each step asks, and what one pass over the trades ensures
 pub record Addable (a : Total) (t : Trade) : Type 0 where
-  pub total : a .units ≤ 512000000
-  pub trade : t .quantity ≤ 1000000
+  pub total : a .units ≤ MOST-NETTED
+  pub trade : t .quantity ≤ MOST-QUANTITY
 
 pub record Raisable (xs : List ℕ) (side : Side) (t : Trade) : Type 0 where
   pub long : length xs ≡ 8064
-  pub fair : TradeFits 32 t
+  pub fair : TradeFits SECURITIES t
   pub addable : Addable (totalIn (totalsOf xs) side (keyOf side t)) t
 
 pub record Gatherable (trades : Trades) : Type 0 where
   pub fit : TradesFit trades
-  pub fair : All (TradeFits 32) (today trades)
+  pub fair : All (TradeFits SECURITIES) (today trades)
 
 pub record Gathered (trades : Trades) (totals : List Total) : Type 0 where
   pub gathered : (side : Side) → Totalled side (today trades) totals

@@ -3,20 +3,21 @@ use Prim.Native.Nat.{ℕ, _+_, _*_, _≤_}
 use mathlib.Core.Path.{_≡_}
 use mathlib.Core.List.{_++_}
 use lib.ListN.{length}
+use Rattle.laws.specs.Limits.{LAST-DAY, POSITIONS, SECURITIES}
 use Rattle.laws.specs.Lists.{All}
 use Rattle.laws.specs.declared.BusinessDay.{BusinessDay}
 use Rattle.plain.specs.Netting.{keys, netted}
-use Rattle.plain.proofs.Invariants.{TradeFits}
+use Rattle.plain.specs.Invariants.{TradeFits}
 use Rattle.tables.specs.Tables.{Positions, Trades, today, positions, TradesFit, PositionsFit}
 
 pub record DayFits (table : Positions) (trades : Trades) (day : BusinessDay) (securities : ℕ) : Type 0 where
   pub positions-fit : PositionsFit table
   pub trades-fit : TradesFit trades
-  pub securities-fit : securities ≤ 32
+  pub securities-fit : securities ≤ SECURITIES
   pub fair : All (TradeFits securities) (today trades)
   -- a trade makes at most two positions
-  pub room : table .count + 2 * length (today trades) ≤ 1024
-  pub dated : day .0 ≤ 9999
+  pub room : table .count + 2 * length (today trades) ≤ POSITIONS
+  pub dated : day .0 ≤ LAST-DAY
 
 pub record DayNetted (table : Positions) (trades : Trades) (day : BusinessDay) (securities : ℕ) (r : Positions) : Type 0 where
   pub made : positions r ≡ positions table ++ netted (day .0) (today trades) (keys securities)

@@ -4,11 +4,13 @@ ghost use mathlib.Core.List.{_∷_, []};
 ghost use Prim.Native.Nat.{_<_, _≤_, max};
 ghost use lib.ListN.{length, getD, set};
 ghost use Rattle.netting.specs.Gathering.{noTotal, noTotals, totalsOf, keyFor, partyOf, placeOf, added, raised, Addable, Raisable, Gatherable, Gathered};
-ghost use Rattle.netting.specs.Members.{netOf, nettedBy, memberKeys, Unequal, MemberFits, Appended};
+ghost use Rattle.netting.specs.Members.{netFrom, nettedBy, memberKeys, Unequal, MemberFits, Appended};
 ghost use Rattle.netting.specs.Netting.{DayFits, DayNetted};
 ghost use Rattle.tables.specs.Lent.{positionTable, tradeTable};
 use events::Trade;
 use laws::BusinessDay;
+use laws::MEMBERS;
+use laws::SECURITIES;
 use plain::Position;
 
 // The side of a trade that a member stands on.
@@ -55,7 +57,7 @@ fn place_of(side: Side, member: u8, security: u16) -> usize
     requires { ⌜ (1 ≤ member) × (1 ≤ security) ⌝ }
     ensures { λ r. ⌜ r ≡ placeOf side (keyFor member security) ⌝ }
 {
-    let key = 32 * (member as usize - 1) + (security as usize - 1);
+    let key = SECURITIES * (member as usize - 1) + (security as usize - 1);
     match side {
         Side::Sale => 2 * key,
         Side::Purchase => 2 * key + 1,
@@ -114,7 +116,7 @@ fn gather(totals: &mut [u32; 8064], trades: &[u32; 2560], netted: usize, count: 
 // What is sold beyond what is bought is short, at the highest sale; else long, at the highest purchase.
 fn position_of(day: BusinessDay, member: u8, security: u16, bought: Total, sold: Total) -> Position
     requires { ⌜ Unequal day bought sold ⌝ }
-    ensures { λ r. ⌜ netOf (day .0) (keyFor member security) bought sold ≡ r ∷ [] ⌝ }
+    ensures { λ r. ⌜ netFrom (day .0) (keyFor member security) bought sold ≡ r ∷ [] ⌝ }
 {
     let settlement = BusinessDay(day.0 + 2);
     if bought.units < sold.units {
@@ -191,7 +193,7 @@ fn net_trades(
     gather(&mut totals, trades, netted, count);
     let mut n = held;
     let mut member: u8 = 1;
-    while member <= 63 {
+    while member <= MEMBERS {
         n = net_member(rows, &totals, day, member, securities, n);
         member += 1;
     }

@@ -2,6 +2,7 @@
 use Prim.Native.Nat.{ℕ, _+_, _%_}
 use mathlib.Core.List.{List}
 use lib.ListN.{getD}
+use Rattle.laws.specs.Limits.{PLACES}
 use Rattle.cells.specs.Table.{tableFrom}
 use Rattle.plain.specs.declared.Piece.{Piece}
 use Rattle.plain.specs.declared.Manner.{Manner}
@@ -18,7 +19,7 @@ pieceFrom m xs at =
 
 -- the 1,024 places
 unfoldable pub piecesOf : Manner → List ℕ → List Piece
-piecesOf m xs = tableFrom 4 1024 (pieceFrom m) xs
+piecesOf m xs = tableFrom 4 PLACES (pieceFrom m) xs
 
 -- a piece before it is priced
 abbrev pub unpriced : Manner → ℕ → ℕ → ℕ → Piece

@@ -2,13 +2,16 @@
 ghost use mathlib.Core.Path.{_≡_};
 ghost use mathlib.Core.List.{map};
 ghost use Prim.Native.Nat.{_<_};
-ghost use lib.ListN.{length, getD, set};
+ghost use lib.ListN.{length, getD, set, replicate};
+ghost use Rattle.laws.specs.Limits.{PLACES};
+ghost use Rattle.plain.specs.declared.Manner.the-variants as manner;
 ghost use Rattle.pieces.specs.Sheet.{piecesOf, unpriced, withCents, inManner};
+use laws::PLACES;
 use plain::Manner;
 use plain::Piece;
 
 pub fn put_piece(sheet: &mut [u64; 4096], place: usize, short: u16, long: u16, units: u32)
-    requires { ⌜ (length (now sheet) ≡ 4096) × (place < 1024) ⌝ }
+    requires { ⌜ (length (now sheet) ≡ 4096) × (place < PLACES) ⌝ }
     ensures { λ _. ⌜ ((m : Manner) → piecesOf m (now (sheet .exit)) ≡ set (piecesOf m (now (sheet .entry))) place (unpriced m short long units)) × (length (now (sheet .exit)) ≡ 4096) ⌝ }
 {
     let at = 4 * place;
@@ -20,14 +23,14 @@ pub fn put_piece(sheet: &mut [u64; 4096], place: usize, short: u16, long: u16, u
 
 // The long of a piece, and its units.
 pub fn long_at(sheet: &[u64; 4096], place: usize) -> u16
-    requires { ⌜ place < 1024 ⌝ }
+    requires { ⌜ place < PLACES ⌝ }
     ensures { λ r. ⌜ ((m : Manner) → r ≡ getD (piecesOf m (now (sheet .entry))) place (unpriced m 0 0 0) .long) ⌝ }
 {
     (sheet[4 * place + 1] % 65536) as u16
 }
 
 pub fn units_at(sheet: &[u64; 4096], place: usize) -> u32
-    requires { ⌜ place < 1024 ⌝ }
+    requires { ⌜ place < PLACES ⌝ }
     ensures { λ r. ⌜ ((m : Manner) → r ≡ getD (piecesOf m (now (sheet .entry))) place (unpriced m 0 0 0) .quantity) ⌝ }
 {
     (sheet[4 * place + 2] % 4294967296) as u32
@@ -35,14 +38,14 @@ pub fn units_at(sheet: &[u64; 4096], place: usize) -> u32
 
 // The cents of a piece; the rest of it stays.
 pub fn put_cents(sheet: &mut [u64; 4096], place: usize, cents: u64)
-    requires { ⌜ (length (now sheet) ≡ 4096) × (place < 1024) ⌝ }
+    requires { ⌜ (length (now sheet) ≡ 4096) × (place < PLACES) ⌝ }
     ensures { λ _. ⌜ ((m : Manner) → piecesOf m (now (sheet .exit)) ≡ set (piecesOf m (now (sheet .entry))) place (withCents cents (getD (piecesOf m (now (sheet .entry))) place (unpriced m 0 0 0)))) × (length (now (sheet .exit)) ≡ 4096) ⌝ }
 {
     sheet[4 * place + 3] = cents;
 }
 
 pub fn piece_at(sheet: &[u64; 4096], place: usize, manner: Manner) -> Piece
-    requires { ⌜ place < 1024 ⌝ }
+    requires { ⌜ place < PLACES ⌝ }
     ensures { λ r. ⌜ r ≡ getD (piecesOf manner (now (sheet .entry))) place (unpriced manner 0 0 0) ⌝ }
 {
     let at = 4 * place;
@@ -55,9 +58,9 @@ pub fn piece_at(sheet: &[u64; 4096], place: usize, manner: Manner) -> Piece
     }
 }
 
-// 1,024 places for pieces.
-pub fn blank_pieces() -> [Piece; 1024]
-    ensures { λ r. ⌜ length r ≡ 1024 ⌝ }
+// 1,024 places for pieces, each of them empty. The length follows, and spares a caller the proof of it.
+pub fn blank_pieces() -> [Piece; PLACES]
+    ensures { λ r. ⌜ (r ≡ replicate PLACES (unpriced manner.Delivered 0 0 0)) × (length r ≡ PLACES) ⌝ }
 {
     let piece = Piece {
         short: 0,
@@ -66,36 +69,36 @@ pub fn blank_pieces() -> [Piece; 1024]
         manner: Manner::Delivered,
         cents: 0,
     };
-    [piece; 1024]
+    [piece; PLACES]
 }
 
 // All places of the sheet as pieces of one manner.
-pub fn pieces_of(sheet: &[u64; 4096], manner: Manner) -> [Piece; 1024]
+pub fn pieces_of(sheet: &[u64; 4096], manner: Manner) -> [Piece; PLACES]
     ensures { λ r. ⌜ r ≡ piecesOf manner (now (sheet .entry)) ⌝ }
 {
     let mut items = blank_pieces();
     let mut i: usize = 0;
-    while i < 1024 {
+    while i < PLACES {
         items[i] = piece_at(sheet, i, manner);
         i += 1;
     }
     items
 }
 
-// The numbers of a sheet.
+// The numbers of an empty sheet.
 pub fn blank_numbers() -> [u64; 4096]
-    ensures { λ r. ⌜ length r ≡ 4096 ⌝ }
+    ensures { λ r. ⌜ (r ≡ replicate 4096 0) × (length r ≡ 4096) ⌝ }
 {
     [0; 4096]
 }
 
 // The numbers that stand for these pieces, whatever their manners.
-pub fn numbers_of(items: [Piece; 1024]) -> [u64; 4096]
+pub fn numbers_of(items: [Piece; PLACES]) -> [u64; 4096]
     ensures { λ r. ⌜ ((m : Manner) → piecesOf m r ≡ map (inManner m) items) × (length r ≡ 4096) ⌝ }
 {
     let mut sheet = blank_numbers();
     let mut i: usize = 0;
-    while i < 1024 {
+    while i < PLACES {
         let piece = items[i];
         put_piece(&mut sheet, i, piece.short, piece.long, piece.quantity);
         put_cents(&mut sheet, i, piece.cents);

@@ -1,18 +1,18 @@
 -- What an accepted call tells: each of its reasons does not apply. And what holds of every history, where each accepted call keeps it.
-use Prim.Native.Nat.{ℕ, zero, suc, _+_, _-_, _≤_, _<_}
+use Prim.Native.Nat.{ℕ, zero, suc, _+_, _≤_, _<_}
 use native.Mathlib.Omega.{arith}
 use mathlib.Core.Path.{_≡_, refl}
 use mathlib.Core.Logic.{_≢_}
 use mathlib.Core.List.{List, [], _∷_}
 use mathlib.Core.Bool.{true, false}
 use lib.ListN.{length}
-use lib.Dec.{leb, eqb}
+use lib.Dec.{eqb}
 use borrow.Author.Tests.{ltb-false, leb-false, eqb-true, eqb-false, not-false}
 use Rattle.laws.specs.Lists.{some}
-use Rattle.laws.specs.Asked.{and-left, and-right, or-left, or-right, within, within-low, within-high}
+use Rattle.laws.specs.Asked.{Within, both-bounds}
+use Rattle.laws.specs.Limits.{MEMBERS, MOST-QUANTITY, MOST-PRICE, TRADES, ATTEMPTS, OFFERS, LAST-DAY}
 use Rattle.laws.specs.Refusals.{accepted, none-applies}
 use Rattle.rules.specs.Windows.{stepKind}
-use Rattle.rules.specs.declared.Step.the-variants as step
 use Rattle.events.specs.declared.Trade.{Trade}
 use Rattle.events.specs.declared.Price.{Price}
 use Rattle.events.specs.declared.Delivery.{Delivery}
@@ -26,37 +26,29 @@ use Rattle.plain.specs.Book.{Book, positionOf, awardOf, latestOf}
 use Rattle.plain.specs.Dealing.{due}
 use Rattle.plain.specs.Auction.{failing, unconfirmed}
 use Rattle.plain.specs.Calls.{Call, call, done}
-use Rattle.plain.specs.Refusals.{isMember, stepToday, free, auctionOn, reasons, refusal}
+use Rattle.plain.specs.Refusals.{stepToday, free, runsOn, reasons, refusal}
 use Rattle.plain.specs.Histories.{eventOf, next, run}
-
--- a number between two bounds, from the test
-pub record Within (low high n : ℕ) : Type 0 where
-  pub above : low ≤ n
-  pub below : n ≤ high
-
-pub both-bounds : (low high n : ℕ) → within low high n ≡ true → Within low high n
-both-bounds low high n e = record { above = within-low low high n e; below = within-high low high n e }
 
 module _ (b : Book) where
   pub record TradeTaken (t : Trade) : Type 0 where
-    pub seller : Within 1 63 (t .seller)
-    pub buyer : Within 1 63 (t .buyer)
-    pub security : Within 1 (b .register .count) (t .security)
-    pub quantity : Within 1 1000000 (t .quantity)
-    pub price : Within 1 10000000 (t .price)
+    pub seller : Within 1 MEMBERS (t .seller)
+    pub buyer : Within 1 MEMBERS (t .buyer)
+    pub security : Within 1 (b .opening .register .count) (t .security)
+    pub quantity : Within 1 MOST-QUANTITY (t .quantity)
+    pub price : Within 1 MOST-PRICE (t .price)
     pub others : t .seller ≢ t .buyer
-    pub room : b .past + length (b .trades) < 512
+    pub room : b .past + length (b .trades) < TRADES
 
   pub record PriceTaken (p : Price) : Type 0 where
-    pub security : Within 1 (b .register .count) (p .security)
-    pub price : Within 1 10000000 (p .price)
+    pub security : Within 1 (b .opening .register .count) (p .security)
+    pub price : Within 1 MOST-PRICE (p .price)
 
   pub record DeliveryTaken (d : Delivery) : Type 0 where
     pub held : Within 1 (length (b .positions)) (d .position)
     pub some-units : d .quantity ≢ 0
     pub short : positionOf b (d .position) .short ≡ true
     pub is-due : due (b .day) (positionOf b (d .position)) ≡ true
-    pub quiet : auctionOn b (d .position) ≡ false
+    pub quiet : runsOn (b .auction .position) (d .position) ≡ false
     pub enough : d .quantity ≤ free b (d .position)
 
   pub record AttemptTaken (a : Attempt) : Type 0 where
@@ -65,23 +57,23 @@ module _ (b : Book) where
     pub window : stepKind (stepToday b (positionOf b (a .position))) ≡ 4
     pub quiet : b .auction .position ≡ 0
     pub priced : latestOf b (positionOf b (a .position) .security) ≢ 0
-    pub few : length (b .marks) < 16
+    pub few : length (b .marks) < ATTEMPTS
     pub unmarked : some (λ n. eqb n (a .position)) (b .marks) ≡ false
     pub unsettled : positionOf b (a .position) .unsettled ≢ 0
 
   pub record OfferTaken (o : Offer) : Type 0 where
-    pub offerer : Within 1 63 (o .offerer)
+    pub offerer : Within 1 MEMBERS (o .offerer)
     pub held : Within 1 (length (b .positions)) (o .position)
-    pub quantity : Within 1 1000000 (o .quantity)
-    pub price : Within 1 10000000 (o .price)
-    pub running : auctionOn b (o .position) ≡ true
+    pub quantity : Within 1 MOST-QUANTITY (o .quantity)
+    pub price : Within 1 MOST-PRICE (o .price)
+    pub running : runsOn (b .auction .position) (o .position) ≡ true
     pub fulfilling : failing (b .day) (b .positions) (positionOf b (o .position) .security) (o .offerer) ≡ false
     pub cheap : o .price ≤ b .auction .ceiling
-    pub few : length (b .auction .offers) < 16
+    pub few : length (b .auction .offers) < OFFERS
 
   pub record AwardTaken (a : asked.Award) : Type 0 where
     pub held : Within 1 (length (b .positions)) (a .position)
-    pub running : auctionOn b (a .position) ≡ true
+    pub running : runsOn (b .auction .position) (a .position) ≡ true
 
   pub record ConfirmTaken (c : Confirm) : Type 0 where
     pub held : Within 1 (length (b .awards)) (c .award)
@@ -96,7 +88,7 @@ module _ (b : Book) where
 
   pub record CloseTaken : Type 0 where
     pub quiet : b .auction .position ≡ 0
-    pub early : b .day < 9999
+    pub early : b .day < LAST-DAY
 
   unfolding-all : Unit {0}
   unfolding reasons refusal
@@ -106,15 +98,14 @@ module _ (b : Book) where
   unfolding unfolding-all
   trade-taken t sheet e =
       let h = none-applies (reasons b (call (event.Trade t) sheet)) refl e in
-      let members = not-false _ (h .0) in
       record {
-        seller = both-bounds 1 63 (t .seller) (and-left (isMember (t .seller)) (isMember (t .buyer)) members);
-        buyer = both-bounds 1 63 (t .buyer) (and-right (isMember (t .seller)) (isMember (t .buyer)) members);
-        security = both-bounds 1 (b .register .count) (t .security) (not-false _ (h .1 .0));
-        quantity = both-bounds 1 1000000 (t .quantity) (not-false _ (h .1 .1 .0));
-        price = both-bounds 1 10000000 (t .price) (not-false _ (h .1 .1 .1 .0));
-        others = eqb-false _ _ (h .1 .1 .1 .1 .0);
-        room = leb-false _ _ (h .1 .1 .1 .1 .1 .0);
+        seller = both-bounds 1 MEMBERS (t .seller) (not-false _ (search));
+        buyer = both-bounds 1 MEMBERS (t .buyer) (not-false _ (search));
+        security = both-bounds 1 (b .opening .register .count) (t .security) (not-false _ (search));
+        quantity = both-bounds 1 MOST-QUANTITY (t .quantity) (not-false _ (search));
+        price = both-bounds 1 MOST-PRICE (t .price) (not-false _ (search));
+        others = eqb-false _ _ (search);
+        room = leb-false _ _ (search);
       }
 
   pub price-taken : (p : Price) (sheet : ℕ) → refusal b (call (event.Price p) sheet) ≡ 0 → PriceTaken p
@@ -122,8 +113,8 @@ module _ (b : Book) where
   price-taken p sheet e =
       let h = none-applies (reasons b (call (event.Price p) sheet)) refl e in
       record {
-        security = both-bounds 1 (b .register .count) (p .security) (not-false _ (h .0));
-        price = both-bounds 1 10000000 (p .price) (not-false _ (h .1 .0));
+        security = both-bounds 1 (b .opening .register .count) (p .security) (not-false _ (search));
+        price = both-bounds 1 MOST-PRICE (p .price) (not-false _ (search));
       }
 
   pub delivery-taken : (d : Delivery) (sheet : ℕ) → refusal b (call (event.Delivery d) sheet) ≡ 0 → DeliveryTaken d
@@ -131,29 +122,28 @@ module _ (b : Book) where
   delivery-taken d sheet e =
       let h = none-applies (reasons b (call (event.Delivery d) sheet)) refl e in
       record {
-        held = both-bounds 1 (length (b .positions)) (d .position) (not-false _ (h .1 .0));
-        some-units = eqb-false _ _ (h .1 .1 .0);
-        short = not-false _ (h .1 .1 .1 .0);
-        is-due = not-false _ (h .1 .1 .1 .1 .0);
-        quiet = h .1 .1 .1 .1 .1 .0;
-        enough = ltb-false _ _ (h .1 .1 .1 .1 .1 .1 .0);
+        held = both-bounds 1 (length (b .positions)) (d .position) (not-false _ (search));
+        some-units = eqb-false _ _ (search);
+        short = not-false _ (search);
+        is-due = not-false _ (search);
+        quiet = search;
+        enough = ltb-false _ _ (search);
       }
 
   pub attempt-taken : (a : Attempt) (sheet : ℕ) → refusal b (call (event.Attempt a) sheet) ≡ 0 → AttemptTaken a
   unfolding unfolding-all
   attempt-taken a sheet e =
       let h = none-applies (reasons b (call (event.Attempt a) sheet)) refl e in
-      let marked = h .1 .1 .1 .1 .1 .0 in
-      let at-zero : b .auction .position ≤ 0 = ltb-false _ _ (h .1 .1 .1 .0) in
+      let at-zero : b .auction .position ≤ 0 = ltb-false _ _ (search) in
       record {
-        held = both-bounds 1 (length (b .positions)) (a .position) (not-false _ (h .0));
-        short = not-false _ (h .1 .0);
-        window = eqb-true _ _ (not-false _ (h .1 .1 .0));
+        held = both-bounds 1 (length (b .positions)) (a .position) (not-false _ (search));
+        short = not-false _ (search);
+        window = eqb-true _ _ (not-false _ (search));
         quiet = omega arith;
-        priced = eqb-false _ _ (h .1 .1 .1 .1 .0);
-        few = leb-false _ _ (or-left (leb 16 (length (b .marks))) (some (λ n. eqb n (a .position)) (b .marks)) marked);
-        unmarked = or-right (leb 16 (length (b .marks))) (some (λ n. eqb n (a .position)) (b .marks)) marked;
-        unsettled = eqb-false _ _ (h .1 .1 .1 .1 .1 .1 .0);
+        priced = eqb-false _ _ (search);
+        few = leb-false _ _ (search);
+        unmarked = search;
+        unsettled = eqb-false _ _ (search);
       }
 
   pub offer-taken : (o : Offer) (sheet : ℕ) → refusal b (call (event.Offer o) sheet) ≡ 0 → OfferTaken o
@@ -161,14 +151,14 @@ module _ (b : Book) where
   offer-taken o sheet e =
       let h = none-applies (reasons b (call (event.Offer o) sheet)) refl e in
       record {
-        offerer = both-bounds 1 63 (o .offerer) (not-false _ (h .0));
-        held = both-bounds 1 (length (b .positions)) (o .position) (not-false _ (h .1 .0));
-        quantity = both-bounds 1 1000000 (o .quantity) (not-false _ (h .1 .1 .0));
-        price = both-bounds 1 10000000 (o .price) (not-false _ (h .1 .1 .1 .0));
-        running = not-false _ (h .1 .1 .1 .1 .0);
-        fulfilling = h .1 .1 .1 .1 .1 .0;
-        cheap = ltb-false _ _ (h .1 .1 .1 .1 .1 .1 .0);
-        few = leb-false _ _ (h .1 .1 .1 .1 .1 .1 .1 .0);
+        offerer = both-bounds 1 MEMBERS (o .offerer) (not-false _ (search));
+        held = both-bounds 1 (length (b .positions)) (o .position) (not-false _ (search));
+        quantity = both-bounds 1 MOST-QUANTITY (o .quantity) (not-false _ (search));
+        price = both-bounds 1 MOST-PRICE (o .price) (not-false _ (search));
+        running = not-false _ (search);
+        fulfilling = search;
+        cheap = ltb-false _ _ (search);
+        few = leb-false _ _ (search);
       }
 
   pub award-taken : (a : asked.Award) (sheet : ℕ) → refusal b (call (event.Award a) sheet) ≡ 0 → AwardTaken a
@@ -176,34 +166,34 @@ module _ (b : Book) where
   award-taken a sheet e =
       let h = none-applies (reasons b (call (event.Award a) sheet)) refl e in
       record {
-        held = both-bounds 1 (length (b .positions)) (a .position) (not-false _ (h .0));
-        running = not-false _ (h .1 .0);
+        held = both-bounds 1 (length (b .positions)) (a .position) (not-false _ (search));
+        running = not-false _ (search);
       }
 
   pub confirm-taken : (c : Confirm) (sheet : ℕ) → refusal b (call (event.Confirm c) sheet) ≡ 0 → ConfirmTaken c
   unfolding unfolding-all
   confirm-taken c sheet e =
       let h = none-applies (reasons b (call (event.Confirm c) sheet)) refl e in
-      record { held = both-bounds 1 (length (b .awards)) (c .award) (not-false _ (h .1 .0)); unconfirmed = h .1 .1 .0 }
+      record { held = both-bounds 1 (length (b .awards)) (c .award) (not-false _ (search)); unconfirmed = search }
 
   pub cash-taken : (c : Cash) (sheet : ℕ) → refusal b (call (event.Cash c) sheet) ≡ 0 → CashTaken c
   unfolding unfolding-all
   cash-taken c sheet e =
       let h = none-applies (reasons b (call (event.Cash c) sheet)) refl e in
       record {
-        held = both-bounds 1 (length (b .positions)) (c .position) (not-false _ (h .1 .0));
-        short = not-false _ (h .1 .1 .0);
-        window = eqb-true _ _ (not-false _ (h .1 .1 .1 .0));
-        priced = eqb-false _ _ (h .1 .1 .1 .1 .0);
-        unsettled = eqb-false _ _ (h .1 .1 .1 .1 .1 .0);
+        held = both-bounds 1 (length (b .positions)) (c .position) (not-false _ (search));
+        short = not-false _ (search);
+        window = eqb-true _ _ (not-false _ (search));
+        priced = eqb-false _ _ (search);
+        unsettled = eqb-false _ _ (search);
       }
 
   pub close-taken : (sheet : ℕ) → refusal b (call event.Close sheet) ≡ 0 → CloseTaken
   unfolding unfolding-all
   close-taken sheet e =
       let h = none-applies (reasons b (call event.Close sheet)) refl e in
-      let at-zero : b .auction .position ≤ 0 = ltb-false _ _ (h .0) in
-      record { quiet = omega arith; early = leb-false _ _ (h .1 .0) }
+      let at-zero : b .auction .position ≤ 0 = ltb-false _ _ (search) in
+      record { quiet = omega arith; early = leb-false _ _ (search) }
 
 -- what holds of the done and of the kept holds of what the refusal number chooses
 pub either : {A : Type 0} (P : A → Type 0) (n : ℕ) (x y : A) → (n ≡ 0 → P x) → P y → P (accepted n x y)

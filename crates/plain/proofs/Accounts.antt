@@ -13,10 +13,10 @@ use borrow.Author.Tests.{eqb-true, eqb-false}
 use Rattle.laws.specs.Lists.{only, sum, each, range, All}
 use Rattle.laws.specs.Asked.{Said, passed, failed, ask}
 use Rattle.laws.specs.Listed.{sum-append}
-use Rattle.laws.specs.Alls.{all-append, all-keep, all-of, all-any, all-each, all-map, all-anywhere}
+use Rattle.laws.specs.Alls.{all-append, all-keep, all-of, all-any, all-each, all-map}
 use Rattle.laws.specs.Refusals.{accepted}
 use Rattle.laws.specs.Integers.{sumℤ, total, sum-sub, sub-self, sum-places}
-use Rattle.register.specs.declared.Register.{Register}
+use Rattle.plain.specs.declared.Opening.{Opening}
 use Rattle.rules.specs.declared.Amount.{Amount}
 use Rattle.rules.specs.declared.Amount.the-variants.{Debit, Credit}
 use Rattle.rules.specs.Charges.{awardFine, lateFine}
@@ -28,12 +28,14 @@ use Rattle.plain.specs.declared.Award.{Award}
 use Rattle.plain.specs.declared.Ledger.{Ledger}
 use Rattle.plain.specs.Book.{Book, new, noPosition, positionOf, awardOf, classOf, latestOf}
 use Rattle.plain.specs.Dealing.{due}
-use Rattle.plain.specs.Charging.{Charge, creditOf, debitOf, raise, credited, debited, posted, charge, buyInCharges, payment, cashCharges, awardFines, lateFines, closeCharges}
+use Rattle.plain.specs.Charging.{Charge, creditOf, debitOf, raise, credited, debited, posted, charge, buyInCharges, payment, cashCharges, awardFines, lateFines, closeCharges, cashChargesBy}
 use Rattle.plain.specs.Calls.{Call, discharged, handsOut, charges, done}
 use Rattle.plain.specs.Refusals.{refusal}
 use Rattle.plain.specs.Histories.{eventOf, next, charged, run, allCharges, balance}
 use Rattle.plain.proofs.Accepted.{run-keeps}
-use Rattle.plain.proofs.Invariants.{Fair, AwardFits}
+use Rattle.plain.specs.Invariants.{Fair, AwardFits}
+use Rattle.plain.specs.Sound.{Balanced, Booked, Places, cents}
+use Rattle.plain.proofs.Numbered.{nth-anywhere}
 
 -- One column of the ledger. `side` says which account of a charge it books: its payee (credits) or its payer (debits).
 
@@ -50,10 +52,6 @@ pub debited-is : (l : List ℕ) (cs : List Charge) → debited l cs ≡ booking 
 unfolding debited booking
 debited-is l [] = refl
 debited-is l (c ∷ cs) = debited-is (raise l (c .payer) (c .cents)) cs
-
--- the cents of charges
-abbrev pub cents : List Charge → ℕ
-cents cs = sum (λ c. c .cents) cs
 
 -- a raise changes one place, or none where the list has no such place
 raise-at : (l : List ℕ) (k n j : ℕ) → j < length l → getD (raise l k n) j 0 ≡ getD l j 0 + only (eqb k j) n
@@ -174,11 +172,6 @@ module _
           sum-append (λ c. only (eqb (side c) k) (c .cents)) (charged b c) (allCharges (next b c) cs),
         )
 
--- "It keeps .. accounts", 0 to 63: each column has 64 places
-pub record Places (l : Ledger) : Type 0 where
-  pub credits : length (l .credits) ≡ 64
-  pub debits : length (l .debits) ≡ 64
-
 pub posted-places : (l : Ledger) (cs : List Charge) → Places l → Places (posted l cs)
 posted-places l cs h =
     record {
@@ -192,7 +185,7 @@ done-places b e p = rw (done-ledger b e) (posted-places (b .ledger) (charges b e
 pub run-places : (b : Book) (cs : List Call) → Places (b .ledger) → Places (run b cs .ledger)
 run-places b cs h = run-keeps (λ b. Places (b .ledger)) (λ b c e p. done-places b (eventOf c) p) b cs h
 
-pub new-places : (register : Register) → Places (new register .ledger)
+pub new-places : (opening : Opening) → Places (new opening .ledger)
 unfolding new
 new-places register = record { credits = length-replicate {A = ℕ} 64 0; debits = length-replicate {A = ℕ} 64 0 }
 
@@ -206,34 +199,29 @@ unfolding debitOf
 run-debit b cs k p h = run-at (λ l. l .debits) (λ c. c .payer) posts-debits b cs k (omega arith)
 
 -- "Accounts start at 0 cents"
-new-credit : (register : Register) (k : ℕ) → k < 64 → getD (new register .ledger .credits) k 0 ≡ 0
+new-credit : (opening : Opening) (k : ℕ) → k < 64 → getD (new opening .ledger .credits) k 0 ≡ 0
 unfolding new
-new-credit register k h = getD-replicate {A = ℕ} 64 k 0 0 h
+new-credit opening k h = getD-replicate {A = ℕ} 64 k 0 0 h
 
-new-debit : (register : Register) (k : ℕ) → k < 64 → getD (new register .ledger .debits) k 0 ≡ 0
+new-debit : (opening : Opening) (k : ℕ) → k < 64 → getD (new opening .ledger .debits) k 0 ≡ 0
 unfolding new
-new-debit register k h = getD-replicate {A = ℕ} 64 k 0 0 h
+new-debit opening k h = getD-replicate {A = ℕ} 64 k 0 0 h
 
 -- every account is the charging rules summed over the list
-pub accounts : (register : Register) (cs : List Call) (k : ℕ) → k < 64 → balance (run (new register) cs) k ≡ subℕ (creditOf k (allCharges (new register) cs)) (debitOf k (allCharges (new register) cs))
+pub accounts : (opening : Opening) (cs : List Call) (k : ℕ) → k < 64 → balance (run (new opening) cs) k ≡ subℕ (creditOf k (allCharges (new opening) cs)) (debitOf k (allCharges (new opening) cs))
 unfolding balance
-accounts register cs k h =
-    let p : Places (new register .ledger) = new-places register in
-    let credits : getD (run (new register) cs .ledger .credits) k 0 ≡ creditOf k (allCharges (new register) cs) = omega (arith, run-credit (new register) cs k p h, new-credit register k h) in
-    let debits : getD (run (new register) cs .ledger .debits) k 0 ≡ debitOf k (allCharges (new register) cs) = omega (arith, run-debit (new register) cs k p h, new-debit register k h) in
-    ap (λ (n : ℕ). subℕ n (getD (run (new register) cs .ledger .debits) k 0)) credits
-    ∙ ap (λ (n : ℕ). subℕ (creditOf k (allCharges (new register) cs)) n) debits
+accounts opening cs k h =
+    let p : Places (new opening .ledger) = new-places opening in
+    let credits : getD (run (new opening) cs .ledger .credits) k 0 ≡ creditOf k (allCharges (new opening) cs) = omega (arith, run-credit (new opening) cs k p h, new-credit opening k h) in
+    let debits : getD (run (new opening) cs .ledger .debits) k 0 ≡ debitOf k (allCharges (new opening) cs) = omega (arith, run-debit (new opening) cs k p h, new-debit opening k h) in
+    ap (λ (n : ℕ). subℕ n (getD (run (new opening) cs .ledger .debits) k 0)) credits
+    ∙ ap (λ (n : ℕ). subℕ (creditOf k (allCharges (new opening) cs)) n) debits
 
 -- All accounts together
 
--- both accounts of a charge are there
-pub record Booked (c : Charge) : Type 0 where
-  pub payer : c .payer < 64
-  pub payee : c .payee < 64
-
 -- what must be known of a book for its charges to be booked
 pub record Accountable (b : Book) : Type 0 where
-  pub positions : All (Fair (b .register .count) (b .day)) (b .positions)
+  pub positions : All (Fair (b .opening .register .count) (b .day)) (b .positions)
   pub awards : All AwardFits (b .awards)
 
 abbrev Account : Position → Type 0
@@ -251,14 +239,14 @@ charge-booked member (Credit n) h = record { payer = house; payee = h }
 module _ (b : Book) (h : Accountable b) where
   member-account : (n : ℕ) → positionOf b n .member < 64
   member-account n =
-      all-anywhere Account (b .positions) (n - 1) noPosition (omega arith)
-      (all-of (Fair (b .register .count) (b .day)) Account (b .positions) (λ p f. omega (arith, f .member)) (h .positions))
+      nth-anywhere noPosition Account (b .positions) n (omega arith)
+      (all-of (Fair (b .opening .register .count) (b .day)) Account (b .positions) (λ p f. omega (arith, f .member)) (h .positions))
 
   cash-booked : (n : ℕ) (xs : List Piece) → All Booked (cashCharges b n xs)
-  unfolding cashCharges payment
+  unfolding cashCharges cashChargesBy payment
   cash-booked n xs =
-      all-append Booked (map (payment b) xs) _
-      (all-map Booked (payment b) (λ x. Unit {0}) xs (λ x u. record { payer = member-account (x .short); payee = member-account (x .long) }) (all-any (λ x. Unit {0}) xs (λ x. tt)))
+      all-append Booked (map (payment (b .positions)) xs) _
+      (all-map Booked (payment (b .positions)) (λ x. Unit {0}) xs (λ x u. record { payer = member-account (x .short); payee = member-account (x .long) }) (all-any (λ x. Unit {0}) xs (λ x. tt)))
       (record { payer = member-account n; payee = house }, tt)
 
   award-booked : (a : Award) → AwardFits a → All Booked (awardFines b a)
@@ -270,7 +258,7 @@ module _ (b : Book) (h : Accountable b) where
       (record { payer = a .offerer; payee = 0; cents = awardFine (classOf b security) (a .quantity * latestOf b security) })
       [] (λ e. record { payer = offerer; payee = house }) tt
 
-  late-booked : (p : Position) → Fair (b .register .count) (b .day) p → All Booked (lateFines b p)
+  late-booked : (p : Position) → Fair (b .opening .register .count) (b .day) p → All Booked (lateFines b p)
   unfolding lateFines
   late-booked p f =
       let member : p .member < 64 = omega (arith, f .member) in
@@ -293,11 +281,7 @@ module _ (b : Book) (h : Accountable b) where
   booked event.Close =
       all-append Booked (each (awardFines b) (b .awards)) (each (lateFines b) (b .positions))
       (all-each Booked (awardFines b) AwardFits (b .awards) award-booked (h .awards))
-      (all-each Booked (lateFines b) (Fair (b .register .count) (b .day)) (b .positions) late-booked (h .positions))
-
--- all that was credited was debited
-abbrev pub Balanced : Ledger → Type 0
-Balanced l = total (l .credits) ≡ total (l .debits)
+      (all-each Booked (lateFines b) (Fair (b .opening .register .count) (b .day)) (b .positions) late-booked (h .positions))
 
 pub posted-balanced : (l : Ledger) (cs : List Charge) → Places l → All Booked cs → Balanced l → Balanced (posted l cs)
 posted-balanced l cs p h e =
@@ -310,7 +294,7 @@ posted-balanced l cs p h e =
 pub done-balanced : (b : Book) (e : Event) → Accountable b → Places (b .ledger) → Balanced (b .ledger) → Balanced (done b e .ledger)
 done-balanced b e a p h = rw (done-ledger b e) (posted-balanced (b .ledger) (charges b e) p (booked b a e) h)
 
-pub new-balanced : (register : Register) → Balanced (new register .ledger)
+pub new-balanced : (opening : Opening) → Balanced (new opening .ledger)
 unfolding new
 new-balanced register = refl
 
@@ -339,11 +323,11 @@ module _ (Holds : Book → Type 0) (step : (b : Book) (c : Call) → refusal b c
         balanced = done-balanced b (eventOf c) (accountable b (h .holds)) (h .places) (h .balanced);
       }
 
-  pub run-kept : (register : Register) (cs : List Call) → Holds (new register) → Kept (run (new register) cs)
-  run-kept register cs h =
-      run-keeps Kept kept-step (new register) cs (record { holds = h; places = new-places register; balanced = new-balanced register })
+  pub run-kept : (opening : Opening) (cs : List Call) → Holds (new opening) → Kept (run (new opening) cs)
+  run-kept opening cs h =
+      run-keeps Kept kept-step (new opening) cs (record { holds = h; places = new-places opening; balanced = new-balanced opening })
 
-  pub accounts-zero : (register : Register) (cs : List Call) → Holds (new register) → sumℤ (balance (run (new register) cs)) (range 0 64) ≡ pos 0
-  accounts-zero register cs h =
-      let k = run-kept register cs h in
-      balanced-zero (run (new register) cs) (k .places) (k .balanced)
+  pub accounts-zero : (opening : Opening) (cs : List Call) → Holds (new opening) → sumℤ (balance (run (new opening) cs)) (range 0 64) ≡ pos 0
+  accounts-zero opening cs h =
+      let k = run-kept opening cs h in
+      balanced-zero (run (new opening) cs) (k .places) (k .balanced)

@@ -24,32 +24,31 @@ use Rattle.plain.specs.declared.Position.{Position}
 use Rattle.plain.specs.declared.Piece.{Piece}
 use Rattle.plain.specs.declared.Award.{Award}
 use Rattle.plain.specs.declared.Manner.{Manner}
-use Rattle.plain.specs.Book.{Book, Auction, noAuction, noPosition, noAward, positionOf, awardOf}
+use Rattle.plain.specs.Book.{Book, Auction, noAuction, noPosition, noAward, positionOf, awardOf, nth}
 use Rattle.plain.specs.Dealing.{lowering}
 use Rattle.plain.specs.Auction.{insert, byPrice, awarded, unconfirmed, confirmedAward}
 use Rattle.plain.specs.Calls.{auctionAwards}
-use Rattle.plain.specs.Refusals.{stepToday, free, auctionRuns, auctionOn}
+use Rattle.plain.specs.Refusals.{stepToday, free, runsOn}
 use Rattle.plain.proofs.Accepted.{DeliveryTaken, AttemptTaken, OfferTaken, AwardTaken, ConfirmTaken, CashTaken}
-use Rattle.plain.proofs.Invariants.{Dealable, Deals, OfferFits, AwardFits}
-use Rattle.plain.proofs.Awards.{kindOn, Marked, marked, Auctioned, window-due, none-on, unconfirmed-append, award-marked, unmarked-free, marked-lowered, covered-lowered}
-
-abbrev pub AuctionedBook : Book → Type 0
-AuctionedBook b = Auctioned (b .register) (b .day) (b .positions) (b .auction) (b .awards) (b .marks)
+use Rattle.plain.specs.Invariants.{Dealable, Deals, OfferFits, AwardFits}
+use Rattle.plain.specs.Sound.{kindOn, Marked, marked, Auctioned, AuctionedBook}
+use Rattle.plain.proofs.Awards.{window-due, none-on, unconfirmed-append, award-marked, unmarked-free, marked-lowered, covered-lowered}
+use Rattle.plain.proofs.Numbered.{nth-at, place-nth}
 
 -- an auction that runs on n
-pub runs-on : (b : Book) (n : ℕ) → auctionOn b n ≡ true → (0 < b .auction .position) × (b .auction .position ≡ n)
+pub runs-on : (b : Book) (n : ℕ) → runsOn (b .auction .position) n ≡ true → (0 < b .auction .position) × (b .auction .position ≡ n)
 runs-on b n e = (
-  ltb-true 0 (b .auction .position) (and-left (auctionRuns b) (eqb (b .auction .position) n) e),
-  eqb-true (b .auction .position) n (and-right (auctionRuns b) (eqb (b .auction .position) n) e),
+  ltb-true 0 (b .auction .position) (and-left (ltb 0 (b .auction .position)) (eqb (b .auction .position) n) e),
+  eqb-true (b .auction .position) n (and-right (ltb 0 (b .auction .position)) (eqb (b .auction .position) n) e),
 )
 
 -- Attempt, offer
 
-pub attempt-keeps : (b : Book) (a : Attempt) (ceiling : ℕ) → AttemptTaken b a → AuctionedBook b → Auctioned (b .register) (b .day) (b .positions) (record { position = a .position; ceiling = ceiling; offers = [] }) (b .awards) (b .marks ++ a .position ∷ [])
+pub attempt-keeps : (b : Book) (a : Attempt) (ceiling : ℕ) → AttemptTaken b a → AuctionedBook b → Auctioned (b .opening .register) (b .day) (b .positions) (record { position = a .position; ceiling = ceiling; offers = [] }) (b .awards) (b .marks ++ a .position ∷ [])
 unfolding stepToday
 attempt-keeps b a ceiling t h =
     record {
-      marks-fit = all-append (Marked (b .register) (b .day) (b .positions)) (b .marks) (a .position ∷ []) (h .marks-fit) (record { held = t .held; short = t .short; window = t .window }, tt);
+      marks-fit = all-append (Marked (b .opening .register) (b .day) (b .positions)) (b .marks) (a .position ∷ []) (h .marks-fit) (record { held = t .held; short = t .short; window = t .window }, tt);
       few-marks = omega (arith, t .few, length-append (b .marks) (a .position ∷ []));
       auction-marked = λ l. some-last (λ k. eqb k (a .position)) (b .marks) (a .position) (eq-eqb (a .position) (a .position) refl);
       auction-first = λ l.
@@ -70,7 +69,7 @@ offer-again a a' p c o f =
     record { position = f .position ∙ sym p; offerer = f .offerer; quantity = f .quantity; price = f .price; cheap = rw c (f .cheap) }
 
 pub offer-keeps : (b : Book) (o : Offer) → OfferTaken b o → AuctionedBook b
-    → Auctioned (b .register) (b .day) (b .positions) (record { position = b .auction .position; ceiling = b .auction .ceiling; offers = b .auction .offers ++ o ∷ [] }) (b .awards) (b .marks)
+    → Auctioned (b .opening .register) (b .day) (b .positions) (record { position = b .auction .position; ceiling = b .auction .ceiling; offers = b .auction .offers ++ o ∷ [] }) (b .awards) (b .marks)
 offer-keeps b o t h =
     let on : b .auction .position ≡ o .position = runs-on b (o .position) (t .running) .1 in
     record {
@@ -156,7 +155,7 @@ awarded-sum n left (o ∷ os) =
     q : ℕ
     q = min (o .quantity) left
 
-pub award-keeps : (b : Book) (a : asked.Award) → AwardTaken b a → AuctionedBook b → Auctioned (b .register) (b .day) (b .positions) noAuction (b .awards ++ auctionAwards b) (b .marks)
+pub award-keeps : (b : Book) (a : asked.Award) → AwardTaken b a → AuctionedBook b → Auctioned (b .opening .register) (b .day) (b .positions) noAuction (b .awards ++ auctionAwards b) (b .marks)
 unfolding auctionAwards award-of
 award-keeps b a t h =
     record {
@@ -197,7 +196,7 @@ award-keeps b a t h =
         go (passed e) =
             let same : suc i ≡ b .auction .position = eqb-true (suc i) (b .auction .position) e in
             let first : unconfirmed (suc i) (b .awards) ≡ 0 = none-on (suc i) (b .awards) (rw same (h .auction-first (on .0))) in
-            let own : positionOf b (b .auction .position) ≡ getD (b .positions) i noPosition = ap (λ (j : ℕ). getD (b .positions) j noPosition) (omega arith) in
+            let own : positionOf b (b .auction .position) ≡ getD (b .positions) i noPosition = place-nth noPosition (b .positions) i (b .auction .position) (sym same) in
             omega (arith, unconfirmed-append (suc i) (b .awards) new, first, awarded-sum (suc i) open' offers, ap (λ (p : Position). p .unsettled) own)
         go (failed e) =
             let other : suc i ≢ b .auction .position = eqb-false (suc i) (b .auction .position) e in
@@ -244,6 +243,13 @@ confirmed-all P f j n awards h =
     all-number P (confirmedAward j) P n awards
     (λ k a p. chosen P (eqb k j) (record { position = a .position; offerer = a .offerer; quantity = a .quantity; price = a .price; confirmed = true }) a (f a p) p) h
 
+-- the same of the award that a number names
+confirmed-named : (k j : ℕ) (awards : List Award) → 1 ≤ j → j < 1 + length awards → nth noAward awards j .confirmed ≡ false
+    → unconfirmed k (number (confirmedAward j) 1 awards) + only (eqb (nth noAward awards j .position) k) (nth noAward awards j .quantity) ≡ unconfirmed k awards
+confirmed-named k j awards h l c =
+    let at = nth-at noAward awards j h in
+    rw at (confirmed-falls k j 1 awards h l (rw at at c))
+
 -- Discharges may be dealt out
 
 pub delivery-dealable : (b : Book) (d : Delivery) → DeliveryTaken b d → Dealable b (d .position) (d .quantity)
@@ -254,34 +260,34 @@ delivery-dealable b d t =
 pub confirm-dealable : (b : Book) (c : Confirm) → ConfirmTaken b c → AuctionedBook b → Dealable b (awardOf b (c .award) .position) (awardOf b (c .award) .quantity)
 confirm-dealable b c t h =
     let l : c .award - 1 < length (b .awards) = omega (arith, t .held .above, t .held .below) in
-    let m = award-marked h (c .award - 1) l in
     let a : Award = awardOf b (c .award) in
     let n : ℕ = a .position in
-    let some-kind : kindOn (b .register) (b .day) (positionOf b n) ≢ 0 = omega (arith, m .window) in
+    let m : Marked (b .opening .register) (b .day) (b .positions) n = rw (nth-at noAward (b .awards) (c .award) (t .held .above)) (award-marked h (c .award - 1) l) in
+    let some-kind : kindOn (b .opening .register) (b .day) (positionOf b n) ≢ 0 = omega (arith, m .window) in
     let own : suc (n - 1) ≡ n = omega (arith, m .held .above) in
-    let falls = confirmed-falls n (c .award) 1 (b .awards) (t .held .above) (omega (arith, t .held .below)) (t .unconfirmed) in
+    let falls = confirmed-named n (c .award) (b .awards) (t .held .above) (omega (arith, t .held .below)) (t .unconfirmed) in
     record {
       held = m .held;
       short = m .short;
-      is-due = window-due (b .register) (b .day) (positionOf b n) some-kind;
-      enough = omega (arith, h .covered (n - 1) (omega (arith, m .held .above, m .held .below)), ap (λ (k : ℕ). unconfirmed k (b .awards)) own, falls, ap (λ (x : Bool). only x (a .quantity)) (eq-eqb n n refl));
+      is-due = window-due (b .opening .register) (b .day) (positionOf b n) some-kind;
+      enough = omega (arith, h .covered (n - 1) (omega (arith, m .held .above, m .held .below)), ap (λ (p : Position). p .unsettled) (nth-at noPosition (b .positions) n (m .held .above)), ap (λ (k : ℕ). unconfirmed k (b .awards)) own, falls, ap (λ (x : Bool). only x (a .quantity)) (eq-eqb n n refl));
     }
 
 pub cash-dealable : (b : Book) (c : Cash) → CashTaken b c → Dealable b (c .position) (positionOf b (c .position) .unsettled)
 unfolding stepToday
 cash-dealable b c t =
-    let some-kind : kindOn (b .register) (b .day) (positionOf b (c .position)) ≢ 0 = omega (arith, t .window) in
-    record { held = t .held; short = t .short; is-due = window-due (b .register) (b .day) (positionOf b (c .position)) some-kind; enough = omega arith }
+    let some-kind : kindOn (b .opening .register) (b .day) (positionOf b (c .position)) ≢ 0 = omega (arith, t .window) in
+    record { held = t .held; short = t .short; is-due = window-due (b .opening .register) (b .day) (positionOf b (c .position)) some-kind; enough = omega arith }
 
 -- Discharges keep the awards covered
 
 lowered-keeps : {b : Book} {m : Manner} {n q : ℕ} {xs : List Piece} (f : Deals b m n q xs) (awards' : List Award) → AuctionedBook b → length awards' ≡ length (b .awards) → All AwardFits awards' → All (λ a. marked (b .marks) (a .position) ≡ true) awards'
     → (0 < b .auction .position → All (λ a. a .position ≢ b .auction .position) awards')
     → unconfirmed n awards' + q ≤ positionOf b n .unsettled → ((k : ℕ) → k ≢ n → unconfirmed k awards' ≡ unconfirmed k (b .awards))
-    → Auctioned (b .register) (b .day) (lowering xs (b .positions)) (b .auction) awards' (b .marks)
+    → Auctioned (b .opening .register) (b .day) (lowering xs (b .positions)) (b .auction) awards' (b .marks)
 lowered-keeps {b} {xs = xs} f awards' h same fit marks first here others =
     record {
-      marks-fit = all-of (Marked (b .register) (b .day) (b .positions)) (Marked (b .register) (b .day) (lowering xs (b .positions))) (b .marks) (λ n m. marked-lowered (b .register) (b .day) xs (b .positions) n m) (h .marks-fit);
+      marks-fit = all-of (Marked (b .opening .register) (b .day) (b .positions)) (Marked (b .opening .register) (b .day) (lowering xs (b .positions))) (b .marks) (λ n m. marked-lowered (b .opening .register) (b .day) xs (b .positions) n m) (h .marks-fit);
       few-marks = h .few-marks;
       auction-marked = h .auction-marked;
       auction-first = first;
@@ -293,7 +299,7 @@ lowered-keeps {b} {xs = xs} f awards' h same fit marks first here others =
       covered = covered-lowered f awards' h here others;
     }
 
-pub delivery-keeps : (b : Book) (d : Delivery) (xs : List Piece) (m : Manner) → DeliveryTaken b d → Deals b m (d .position) (d .quantity) xs → AuctionedBook b → Auctioned (b .register) (b .day) (lowering xs (b .positions)) (b .auction) (b .awards) (b .marks)
+pub delivery-keeps : (b : Book) (d : Delivery) (xs : List Piece) (m : Manner) → DeliveryTaken b d → Deals b m (d .position) (d .quantity) xs → AuctionedBook b → Auctioned (b .opening .register) (b .day) (lowering xs (b .positions)) (b .auction) (b .awards) (b .marks)
 unfolding free
 delivery-keeps b d xs m t f h =
     lowered-keeps f (b .awards) h refl (h .awards-fit) (h .awards-marked) (h .auction-first) (omega (arith, t .enough, positive)) (λ k n. refl)
@@ -301,16 +307,16 @@ delivery-keeps b d xs m t f h =
     positive : unconfirmed (d .position) (b .awards) ≤ positionOf b (d .position) .unsettled
     positive =
         let own : suc (d .position - 1) ≡ d .position = omega (arith, t .held .above) in
-        rw own at (h .covered (d .position - 1) (omega (arith, t .held .above, t .held .below)))
+        rw (nth-at noPosition (b .positions) (d .position) (t .held .above)) (rw own at (h .covered (d .position - 1) (omega (arith, t .held .above, t .held .below))))
 
-pub cash-keeps : (b : Book) (c : Cash) (xs : List Piece) (m : Manner) (q : ℕ) → CashTaken b c → q ≤ positionOf b (c .position) .unsettled → Deals b m (c .position) q xs → AuctionedBook b → Auctioned (b .register) (b .day) (lowering xs (b .positions)) (b .auction) (b .awards) (b .marks)
+pub cash-keeps : (b : Book) (c : Cash) (xs : List Piece) (m : Manner) (q : ℕ) → CashTaken b c → q ≤ positionOf b (c .position) .unsettled → Deals b m (c .position) q xs → AuctionedBook b → Auctioned (b .opening .register) (b .day) (lowering xs (b .positions)) (b .auction) (b .awards) (b .marks)
 unfolding stepToday
 cash-keeps b c xs m q t e f h =
     let none : unconfirmed (c .position) (b .awards) ≡ 0 = unmarked-free h (c .position) (λ k. omega (arith, k .window, t .window)) in
     lowered-keeps f (b .awards) h refl (h .awards-fit) (h .awards-marked) (h .auction-first) (omega arith) (λ k n. refl)
 
 pub confirm-keeps : (b : Book) (c : Confirm) (xs : List Piece) (m : Manner) → ConfirmTaken b c → Deals b m (awardOf b (c .award) .position) (awardOf b (c .award) .quantity) xs → AuctionedBook b
-    → Auctioned (b .register) (b .day) (lowering xs (b .positions)) (b .auction) (number (confirmedAward (c .award)) 1 (b .awards)) (b .marks)
+    → Auctioned (b .opening .register) (b .day) (lowering xs (b .positions)) (b .auction) (number (confirmedAward (c .award)) 1 (b .awards)) (b .marks)
 confirm-keeps b c xs m t f h =
     lowered-keeps f awards' h (length-number (confirmedAward (c .award)) 1 (b .awards)) (confirmed-all AwardFits (λ a k. record { offerer = k .offerer; quantity = k .quantity; price = k .price }) (c .award) 1 (b .awards) (h .awards-fit))
     (confirmed-all (λ a. marked (b .marks) (a .position) ≡ true) (λ a k. k) (c .award) 1 (b .awards) (h .awards-marked))
@@ -328,12 +334,12 @@ confirm-keeps b c xs m t f h =
     q = awardOf b (c .award) .quantity
 
     falls : (k : ℕ) → unconfirmed k awards' + only (eqb n k) q ≡ unconfirmed k (b .awards)
-    falls k = confirmed-falls k (c .award) 1 (b .awards) (t .held .above) (omega (arith, t .held .below)) (t .unconfirmed)
+    falls k = confirmed-named k (c .award) (b .awards) (t .held .above) (omega (arith, t .held .below)) (t .unconfirmed)
 
     cover : unconfirmed n (b .awards) ≤ positionOf b n .unsettled
     cover =
         let own : suc (n - 1) ≡ n = omega (arith, f .dealable .held .above) in
-        rw own at (h .covered (n - 1) (omega (arith, f .dealable .held .above, f .dealable .held .below)))
+        rw (nth-at noPosition (b .positions) n (f .dealable .held .above)) (rw own at (h .covered (n - 1) (omega (arith, f .dealable .held .above, f .dealable .held .below))))
 
 -- a close clears marks and awards
 pub close-keeps : (register : Register) (day : ℕ) (ps : List Position) (auction : Auction) → auction .position ≡ 0 → All (OfferFits auction) (auction .offers) → length (auction .offers) ≤ 16 → Auctioned register day ps auction [] []

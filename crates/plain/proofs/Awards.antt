@@ -1,14 +1,14 @@
 -- The auction, the attempt marks and the awards of a day: unconfirmed awards of a short never exceed what is open of it.
-use Prim.Native.Nat.{ℕ, suc, _+_, _-_, _*_, _≤_, _<_}
+use Prim.Native.Nat.{ℕ, suc, _+_, _-_, _≤_, _<_}
 use native.Mathlib.Omega.{arith}
 use mathlib.Core.Path.{_≡_, refl, ap, sym, _∙_, subst}
 use mathlib.Core.Logic.{_≢_}
 use mathlib.Core.List.{List, _++_}
 use mathlib.Core.Bool.{Bool, true, false, not, cond, _&&_, true≢false}
 use lib.ListN.{length, getD}
-use lib.Dec.{ltb, leb, eqb}
+use lib.Dec.{leb, eqb}
 use borrow.Author.Tests.{ne-eqb, eqb-true, eqb-false, leb-false}
-use Rattle.laws.specs.Lists.{All, only, some}
+use Rattle.laws.specs.Lists.{All, only}
 use Rattle.laws.specs.Asked.{Said, passed, failed, ask}
 use Rattle.laws.specs.Listed.{sum-append}
 use Rattle.laws.specs.Sums.{sum-same-all, sum-zero}
@@ -22,38 +22,10 @@ use Rattle.plain.specs.declared.Manner.{Manner}
 use Rattle.plain.specs.Book.{Book, Auction, noPosition, noAward, nth, positionOf}
 use Rattle.plain.specs.Dealing.{due, taken, lowered, lowering}
 use Rattle.plain.specs.Auction.{unconfirmed}
-use Rattle.plain.proofs.Accepted.{Within}
-use Rattle.plain.proofs.Invariants.{asLong, Deals, OfferFits, AwardFits}
+use Rattle.plain.specs.Invariants.{asLong, Deals}
 use Rattle.plain.proofs.Discharged.{length-lowering, lowering-at, taken-short, taken-other, no-long}
-
--- the kind of the step that a day allows on a position
-abbrev pub kindOn : Register → ℕ → Position → ℕ
-kindOn register day p = stepKind (stepOn (nth 0 (register .classes) (p .security)) (day - p .settlement .0))
-
--- a position that an attempt was opened on today: a short in its attempt window
-pub record Marked (register : Register) (day : ℕ) (ps : List Position) (n : ℕ) : Type 0 where
-  pub held : Within 1 (length ps) n
-  pub short : nth noPosition ps n .short ≡ true
-  pub window : kindOn register day (nth noPosition ps n) ≡ 4
-
--- position n is among the marks
-abbrev pub marked : List ℕ → ℕ → Bool
-marked marks n = some (λ k. eqb k n) marks
-
-pub record Auctioned (register : Register) (day : ℕ) (ps : List Position) (auction : Auction) (awards : List Award) (marks : List ℕ) : Type 0 where
-  pub marks-fit : All (Marked register day ps) marks
-  pub few-marks : length marks ≤ 16
-  -- the auction's short is marked and has no award yet
-  pub auction-marked : 0 < auction .position → marked marks (auction .position) ≡ true
-  pub auction-first : 0 < auction .position → All (λ a. a .position ≢ auction .position) awards
-  pub offers-fit : All (OfferFits auction) (auction .offers)
-  pub few-offers : length (auction .offers) ≤ 16
-  pub awards-fit : All AwardFits awards
-  pub awards-marked : All (λ a. marked marks (a .position) ≡ true) awards
-  -- each attempt makes at most sixteen awards
-  pub few-awards : length awards + only (ltb 0 (auction .position)) 16 ≤ 16 * length marks
-  -- "unconfirmed awards of a short never exceed its open quantity"
-  pub covered : (i : ℕ) → i < length ps → unconfirmed (suc i) awards ≤ getD ps i noPosition .unsettled
+use Rattle.plain.specs.Sound.{Auctioned, Marked, kindOn, marked}
+use Rattle.plain.proofs.Numbered.{nth-at, place-nth}
 
 -- Windows
 
@@ -112,7 +84,8 @@ module _ {register : Register} {day : ℕ} {ps : List Position} {auction : Aucti
 pub marked-lowered : (register : Register) (day : ℕ) (xs : List Piece) (ps : List Position) (n : ℕ) → Marked register day ps n → Marked register day (lowering xs ps) n
 marked-lowered register day xs ps n m =
     let l : n - 1 < length ps = omega (arith, m .held .above, m .held .below) in
-    let at : nth noPosition (lowering xs ps) n ≡ lowered xs (suc (n - 1)) (nth noPosition ps n) = lowering-at xs ps (n - 1) l in
+    let at : nth noPosition (lowering xs ps) n ≡ lowered xs (suc (n - 1)) (nth noPosition ps n) =
+    nth-at noPosition (lowering xs ps) n (m .held .above) ∙ lowering-at xs ps (n - 1) l ∙ ap (lowered xs (suc (n - 1))) (sym (nth-at noPosition ps n (m .held .above))) in
     record {
       held = record { above = m .held .above; below = rw (length-lowering xs ps) (m .held .below) };
       short = ap (λ (p : Position). p .short) at ∙ unfold lowered in m .short;
@@ -121,7 +94,7 @@ marked-lowered register day xs ps n m =
 
 -- a discharge of q units of short n that leaves the awards covered
 module _ {b : Book} {m : Manner} {n q : ℕ} {xs : List Piece} (f : Deals b m n q xs) (awards' : List Award)
-    (h : Auctioned (b .register) (b .day) (b .positions) (b .auction) (b .awards) (b .marks)) where
+    (h : Auctioned (b .opening .register) (b .day) (b .positions) (b .auction) (b .awards) (b .marks)) where
   pub covered-lowered : unconfirmed n awards' + q ≤ positionOf b n .unsettled → ((k : ℕ) → k ≢ n → unconfirmed k awards' ≡ unconfirmed k (b .awards)) → (i : ℕ) → i < length (lowering xs (b .positions)) → unconfirmed (suc i) awards' ≤ getD (lowering xs (b .positions)) i noPosition .unsettled
   covered-lowered here others i l = rw (lowering-at xs (b .positions) i k) (at (ask (eqb (suc i) n)))
     where
@@ -140,15 +113,15 @@ module _ {b : Book} {m : Manner} {n q : ℕ} {xs : List Piece} (f : Deals b m n 
       -- a short that is not the discharge's own gives nothing; a long has no award
       other : suc i ≢ n → Said (p .short) → unconfirmed (suc i) awards' ≤ lowered xs (suc i) p .unsettled
       other d (passed s) =
-          let none : asLong (suc i) xs ≡ 0 = no-long f (suc i) (λ t. true≢false (sym s ∙ ap (λ (j : ℕ). getD (b .positions) j noPosition .short) (sym place) ∙ t .long)) in
+          let none : asLong (suc i) xs ≡ 0 = no-long f (suc i) (λ t. true≢false (sym s ∙ t .long)) in
           omega (arith, lower, taken-other f (suc i) d, none, others (suc i) d, h .covered i k)
       other d (failed s) =
-          let free : unconfirmed (suc i) (b .awards) ≡ 0 = unmarked-free h (suc i) (λ t. true≢false (sym (t .short) ∙ ap (λ (j : ℕ). getD (b .positions) j noPosition .short) place ∙ s)) in
+          let free : unconfirmed (suc i) (b .awards) ≡ 0 = unmarked-free h (suc i) (λ t. true≢false (sym (t .short) ∙ s)) in
           omega (arith, free, others (suc i) d)
 
       at : Said (eqb (suc i) n) → unconfirmed (suc i) awards' ≤ lowered xs (suc i) p .unsettled
       at (passed e) =
           let same : suc i ≡ n = eqb-true (suc i) n e in
-          let own : positionOf b n ≡ p = ap (λ (j : ℕ). getD (b .positions) j noPosition) (omega arith) in
+          let own : positionOf b n ≡ p = place-nth noPosition (b .positions) i n (sym same) in
           omega (arith, lower, here, ap (λ (j : ℕ). unconfirmed j awards') same, ap (λ (j : ℕ). taken j xs) same, taken-short f, ap (λ (r : Position). r .unsettled) own)
       at (failed e) = other (eqb-false (suc i) n e) (ask (p .short))

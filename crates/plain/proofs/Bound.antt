@@ -12,12 +12,13 @@ use lib.Dec.{ltb, leb, eqb}
 use Rattle.laws.specs.Lists.{only, sum, each, All}
 use Rattle.laws.specs.Listed.{sum-append}
 use Rattle.laws.specs.Sums.{only-le, sum-same-all, sum-each, sum-keep}
-use Rattle.laws.specs.Alls.{all-of, all-any, all-anywhere}
-use Rattle.laws.specs.Integers.{total, place-le, sum-at-most, sum-times, magnitude, sub-magnitude}
+use Rattle.laws.specs.Alls.{all-of, all-any}
+use Rattle.laws.specs.Integers.{total, place-le, sum-at-most, sum-times, sub-magnitude}
 use Rattle.rules.specs.declared.Amount.{Amount}
 use Rattle.rules.specs.declared.Amount.the-variants.{Debit, Credit}
 use Rattle.rules.specs.Classes.{byClass}
 use Rattle.rules.specs.Prices.{raised, cashPrice}
+use Rattle.rules.specs.Charged.{buy-in-amount}
 use Rattle.rules.specs.Charges.{roundedHalfUp, fee, cashFee, awardFine, lateFine, buyInCharge}
 use Rattle.events.specs.declared.Trade.{Trade}
 use Rattle.events.specs.declared.Delivery.{Delivery}
@@ -29,38 +30,30 @@ use Rattle.plain.specs.declared.Piece.{Piece}
 use Rattle.plain.specs.declared.Award.{Award}
 use Rattle.plain.specs.declared.Manner.the-variants.{Cash}
 use Rattle.plain.specs.declared.Ledger.{Ledger}
-use Rattle.plain.specs.Book.{Book, new, noPosition, noAward, positionOf, awardOf, classOf, latestOf}
+use Rattle.plain.specs.Book.{Book, new, noPosition, noAward, noPrice, positionOf, awardOf, classOf, latestOf}
 use Rattle.plain.specs.Netting.{keys, netted}
 use Rattle.plain.specs.Dealing.{due, lowering}
-use Rattle.plain.specs.Charging.{Charge, posted, charge, buyInCharges, priced, payment, cashCharges, awardFines, lateFines, closeCharges}
+use Rattle.plain.specs.Charging.{Charge, posted, charge, buyInCharges, priced, payment, cashCharges, awardFines, lateFines, closeCharges, pricedBy, cashChargesBy, feeOf}
 use Rattle.plain.specs.Calls.{Call, call, dealt, discharged, handsOut, charges, done}
 use Rattle.plain.specs.Refusals.{refusal}
 use Rattle.plain.specs.Histories.{eventOf, run, balance}
-use Rattle.register.specs.declared.Register.{Register}
+use Rattle.plain.specs.declared.Opening.{Opening}
 use Rattle.plain.proofs.Accepted.{cash-taken, close-taken, run-keeps}
-use Rattle.plain.proofs.Invariants.{TradeFits, Fair, AwardFits, Dealt, openOf}
-use Rattle.plain.proofs.Accounts.{cents, posts-credits, posted-most, Accountable, Balanced, run-kept}
+use Rattle.plain.specs.Invariants.{TradeFits, Fair, AwardFits, Dealt}
+use Rattle.plain.specs.Sound.{cents, Balanced, Bound, Small, openShorts}
+use Rattle.plain.proofs.Accounts.{posts-credits, posted-most, Accountable, run-kept}
 use Rattle.plain.proofs.Discharged.{shorts-fall}
 use Rattle.plain.proofs.Netted.{New, netted-new, netted-units, keys-once}
+use Rattle.plain.proofs.Numbered.{nth-anywhere}
 
 -- what must be known of a book for its charges to be bounded
 pub record Bounding (b : Book) : Type 0 where
-  pub prices : All (λ price. price ≤ 10000000) (b .prices)
-  pub positions : All (Fair (b .register .count) (b .day)) (b .positions)
+  pub prices : All (λ p. p .price ≤ 10000000) (b .prices)
+  pub positions : All (Fair (b .opening .register .count) (b .day)) (b .positions)
   pub awards : All AwardFits (b .awards)
   pub few : length (b .awards) ≤ 256
-  pub trades : All (TradeFits (b .register .count)) (b .trades)
+  pub trades : All (TradeFits (b .opening .register .count)) (b .trades)
   pub room : b .past + length (b .trades) ≤ 512
-
--- the units open on shorts
-abbrev pub openShorts : List Position → ℕ
-openShorts ps = openOf (λ p. p .short) ps
-
-pub record Bound (b : Book) : Type 0 where
-  pub day : b .day ≤ 9999
-  -- a trade leaves at most its own units open
-  pub units : openShorts (b .positions) ≤ 1000000 * b .past
-  pub cents : total (b .ledger .credits) + 21000000 * openShorts (b .positions) ≤ 2000000000000 * b .day + 21000000000000 * b .past
 
 -- Prices and charges of one step
 
@@ -98,11 +91,12 @@ cash-price-most class short long latest h k l =
     omega arith
 
 buy-in-most : (member quantity price reference : ℕ) → price ≤ 10000000 → reference ≤ 10000000 → charge member (buyInCharge quantity price reference) .cents ≤ 10000000 * quantity
-unfolding buyInCharge charge
+unfolding charge
 buy-in-most member quantity price reference h k =
-    let over : quantity * (price - reference) ≤ quantity * 10000000 = mul-le-mul-left quantity (omega arith) in
-    let under : quantity * (reference - price) ≤ quantity * 10000000 = mul-le-mul-left quantity (omega arith) in
-    cond-either (λ (a : Amount). charge member a .cents ≤ 10000000 * quantity) (leb reference price) (Debit (quantity * (price - reference))) (Credit (quantity * (reference - price))) (omega arith) (omega arith)
+    let over : quantity * price ≤ quantity * 10000000 = mul-le-mul-left quantity h in
+    let under : quantity * reference ≤ quantity * 10000000 = mul-le-mul-left quantity k in
+    rw (buy-in-amount quantity price reference)
+    (cond-either (λ (a : Amount). charge member a .cents ≤ 10000000 * quantity) (leb (quantity * reference) (quantity * price)) (Debit (quantity * price - quantity * reference)) (Credit (quantity * reference - quantity * price)) (omega arith) (omega arith))
 
 -- a fine that is due only from a short
 only-first : (a b c d : Bool) (n : ℕ) → only (a && b && c && d) n ≤ only a n
@@ -115,16 +109,16 @@ only-times false m x y h = omega arith
 
 module _ (b : Book) (h : Bounding b) where
   latest-most : (s : ℕ) → latestOf b s ≤ 10000000
-  latest-most s = all-anywhere (λ price. price ≤ 10000000) (b .prices) (s - 1) 0 (omega arith) (h .prices)
+  latest-most s = nth-anywhere noPrice (λ l. l .price ≤ 10000000) (b .prices) s (omega arith) (h .prices)
 
   reference-most : (n : ℕ) → positionOf b n .reference ≤ 10000000
   reference-most n =
-      all-anywhere (λ (p : Position). p .reference ≤ 10000000) (b .positions) (n - 1) noPosition (omega arith)
-      (all-of (Fair (b .register .count) (b .day)) (λ p. p .reference ≤ 10000000) (b .positions) (λ p f. f .reference .below) (h .positions))
+      nth-anywhere noPosition (λ (p : Position). p .reference ≤ 10000000) (b .positions) n (omega arith)
+      (all-of (Fair (b .opening .register .count) (b .day)) (λ p. p .reference ≤ 10000000) (b .positions) (λ p f. f .reference .below) (h .positions))
 
   award-price-most : (n : ℕ) → awardOf b n .price ≤ 10000000
   award-price-most n =
-      all-anywhere (λ (a : Award). a .price ≤ 10000000) (b .awards) (n - 1) noAward (omega arith)
+      nth-anywhere noAward (λ (a : Award). a .price ≤ 10000000) (b .awards) n (omega arith)
       (all-of AwardFits (λ a. a .price ≤ 10000000) (b .awards) (λ a f. f .price .below) (h .awards))
 
   -- a buy-in charges at most 10,000,000 cents a unit
@@ -136,7 +130,7 @@ module _ (b : Book) (h : Bounding b) where
 
   -- a cash settlement at most 20,000,000 cents a unit, and its fee
   priced-most : (x : Piece) → priced b x .cents ≤ 20000000 * x .quantity
-  unfolding priced
+  unfolding priced pricedBy
   priced-most x =
       let short = positionOf b (x .short) in
       let long = positionOf b (x .long) in
@@ -145,27 +139,27 @@ module _ (b : Book) (h : Bounding b) where
         mul-le-mul-left (x .quantity) (cash-price-most (classOf b (short .security)) (short .reference) (long .reference) (latestOf b (short .security)) (reference-most (x .short)) (reference-most (x .long)) (latest-most (short .security))),
       )
 
-  payments-most : (xs : List Piece) → cents (map (payment b) (map (priced b) xs)) ≤ 20000000 * sum (λ x. x .quantity) (map (priced b) xs)
+  payments-most : (xs : List Piece) → cents (map (payment (b .positions)) (map (priced b) xs)) ≤ 20000000 * sum (λ x. x .quantity) (map (priced b) xs)
   unfolding payment
   payments-most [] = omega arith
   payments-most (x ∷ xs) = omega (arith, payments-most xs, priced-most x, same-quantity)
     where
       same-quantity : priced b x .quantity ≡ x .quantity
-      same-quantity = unfold priced in refl
+      same-quantity = unfold priced in unfold pricedBy in refl
 
   cash-cents : (c : asked.Cash) → Dealt b (event.Cash c) → cents (charges b (event.Cash c)) ≤ 20000000 * positionOf b (c .position) .unsettled + 100000
-  unfolding charges cashCharges
+  unfolding charges cashCharges cashChargesBy
   cash-cents c d =
       let xs = handsOut b (event.Cash c) in
       omega (
         arith,
-        sum-append (λ (c : Charge). c .cents) (map (payment b) xs) (record { payer = positionOf b (c .position) .member; payee = 0; cents = cashFee (positionOf b (c .position) .unsettled * latestOf b (positionOf b (c .position) .security)) } ∷ []),
+        sum-append (λ (c : Charge). c .cents) (map (payment (b .positions)) xs) (feeOf (positionOf b (c .position)) (latestOf b (positionOf b (c .position) .security)) ∷ []),
         paid,
         d .total,
         cash-fee-most (positionOf b (c .position) .unsettled * latestOf b (positionOf b (c .position) .security)),
       )
     where
-      paid : cents (map (payment b) (handsOut b (event.Cash c))) ≤ 20000000 * sum (λ x. x .quantity) (handsOut b (event.Cash c))
+      paid : cents (map (payment (b .positions)) (handsOut b (event.Cash c))) ≤ 20000000 * sum (λ x. x .quantity) (handsOut b (event.Cash c))
       paid = unfold handsOut in payments-most (dealt b Cash (c .position) (positionOf b (c .position) .unsettled))
 
   -- a close at most 4·10^9 cents an award and 1,000 cents a unit
@@ -237,10 +231,10 @@ discharge-bound b xs cs q e l h =
 close-bound : (b : Book) → b .day < 9999 → Bounding b → Bound b → Bound (done b event.Close)
 unfolding done
 close-bound b early f h =
-    let fresh = netted (b .day) (b .trades) (keys (b .register .count)) in
+    let fresh = netted (b .day) (b .trades) (keys (b .opening .register .count)) in
     let joined = sum-append (λ (p : Position). only (p .short) (p .unsettled)) (b .positions) fresh in
-    let few : openShorts fresh ≤ sum (λ t. t .quantity) (b .trades) = netted-shorts (b .day) (b .trades) (b .register .count) in
-    let small = traded-most (b .register .count) (b .trades) (f .trades) in
+    let few : openShorts fresh ≤ sum (λ t. t .quantity) (b .trades) = netted-shorts (b .day) (b .trades) (b .opening .register .count) in
+    let small = traded-most (b .opening .register .count) (b .trades) (f .trades) in
     record {
       day = early;
       units = omega (arith, joined, few, small, h .units);
@@ -270,16 +264,11 @@ done-bound b (call (event.Cash c) sheet) r f d h =
     (shorts-fall d) (omega (arith, cash-cents b f c d)) h
 done-bound b (call event.Close sheet) r f d h = close-bound b (close-taken b sheet r .early) f h
 
-pub new-bound : (register : Register) → Bound (new register)
+pub new-bound : (opening : Opening) → Bound (new opening)
 unfolding new
 new-bound register = record { day = omega arith; units = omega arith; cents = omega arith }
 
 -- What follows for each account
-
-pub record Small (b : Book) (k : ℕ) : Type 0 where
-  pub credit : getD (b .ledger .credits) k 0 ≤ 100000000000000000
-  pub debit : getD (b .ledger .debits) k 0 ≤ 100000000000000000
-  pub difference : magnitude (balance b k) ≤ 100000000000000000
 
 pub bound-small : (b : Book) → Bound b → b .past ≤ 512 → Balanced (b .ledger) → (k : ℕ) → Small b k
 unfolding balance
@@ -307,12 +296,12 @@ module _
     accountable : (b : Book) → Holds b → Accountable b
     accountable b h = record { positions = bounding b h .positions; awards = bounding b h .awards }
 
-    pub run-bound : (register : Register) (cs : List Call) → Holds (new register) → Bound (run (new register) cs)
-    run-bound register cs h =
-        run-keeps Bounded bounded-step (new register) cs (record { holds = h; bound = new-bound register }) .bound
+    pub run-bound : (opening : Opening) (cs : List Call) → Holds (new opening) → Bound (run (new opening) cs)
+    run-bound opening cs h =
+        run-keeps Bounded bounded-step (new opening) cs (record { holds = h; bound = new-bound opening }) .bound
 
-    pub accounts-small : (register : Register) (cs : List Call) → Holds (new register) → (k : ℕ) → Small (run (new register) cs) k
-    accounts-small register cs h k =
-        let kept = run-kept Holds step accountable register cs h in
-        let few : run (new register) cs .past ≤ 512 = omega (arith, bounding (run (new register) cs) (kept .holds) .room) in
-        bound-small (run (new register) cs) (run-bound register cs h) few (kept .balanced) k
+    pub accounts-small : (opening : Opening) (cs : List Call) → Holds (new opening) → (k : ℕ) → Small (run (new opening) cs) k
+    accounts-small opening cs h k =
+        let kept = run-kept Holds step accountable opening cs h in
+        let few : run (new opening) cs .past ≤ 512 = omega (arith, bounding (run (new opening) cs) (kept .holds) .room) in
+        bound-small (run (new opening) cs) (run-bound opening cs h) few (kept .balanced) k

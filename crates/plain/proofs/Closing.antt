@@ -14,7 +14,7 @@ use Rattle.laws.specs.Sums.{sum-same, sum-same-all, sum-add, sum-zero}
 use Rattle.laws.specs.Alls.{all-append, all-of}
 use Rattle.plain.specs.declared.Position.{Position}
 use Rattle.plain.specs.Dealing.{due, longOf}
-use Rattle.plain.proofs.Invariants.{Whole, Untouched, openOf, nettedOf, shortOn, longOn, Even}
+use Rattle.plain.specs.Invariants.{Whole, Untouched, openOf, nettedOf, shortOn, longOn, Even}
 use Rattle.plain.proofs.Netted.{New, new-whole}
 
 pub made-untouched : (day next : ℕ) (ps : List Position) → All (New day) ps → All (Untouched next) ps

@@ -17,9 +17,10 @@ use Rattle.plain.specs.declared.Piece.{Piece}
 use Rattle.plain.specs.declared.Manner.{Manner}
 use Rattle.plain.specs.Book.{Book, noPosition, positionOf}
 use Rattle.plain.specs.Dealing.{due, longOf, Taker, longsOn, takers, share, dealTo}
-use Rattle.plain.specs.Charging.{priced}
+use Rattle.plain.specs.Charging.{priced, pricedBy}
 use Rattle.plain.specs.Calls.{dealt}
-use Rattle.plain.proofs.Invariants.{dueShort, dueLong, openOf, Even, DueLong, asLong, Dealable, Deals}
+use Rattle.plain.specs.Invariants.{dueShort, dueLong, openOf, Even, DueLong, asLong, Dealable, Deals}
+use Rattle.plain.proofs.Numbered.{place-nth, sum-named}
 
 -- Over any list of takers
 
@@ -172,22 +173,16 @@ takers-all b s =
         let p : Position = getD (b .positions) i noPosition in
         let long : not (p .short) && eqb (p .security) s ≡ true = and-left _ (eqb (p .settlement .0) d) e in
         let on : p .settlement .0 ≡ d = eqb-true _ _ (and-right (not (p .short) && eqb (p .security) s) _ e) in
-        let k : 1 + i - 1 ≡ i = omega arith in
+        let place : positionOf b (1 + i) ≡ p = place-nth noPosition (b .positions) i (1 + i) (omega arith) in
         record {
           held = record { above = omega arith; below = omega arith };
-          long = rw k (not-true (p .short) (and-left _ (eqb (p .security) s) long));
-          same = rw k (eqb-true _ _ (and-right (not (p .short)) _ long));
-          is-due = rw k (le-leb (p .settlement .0) (b .day) (omega arith));
+          long = rw place (not-true (p .short) (and-left _ (eqb (p .security) s) long));
+          same = rw place (eqb-true _ _ (and-right (not (p .short)) _ long));
+          is-due = rw place (le-leb (p .settlement .0) (b .day) (omega arith));
         }
 
     on-day : (d : ℕ) → (0 ≤ d) × (d < 0 + suc (b .day)) → All (λ t. DueLong b s (t .number)) (longsOn d s 1 (b .positions))
     on-day d h = longs-all (λ k. DueLong b s k) d s 1 (b .positions) (λ i l e. found d i (omega (arith, h .1)) l e)
-
--- An element counts in its sum
-sum-at : {A : Type 0} (f : A → ℕ) (xs : List A) (i : ℕ) (x : A) → i < length xs → f (getD xs i x) ≤ sum f xs
-sum-at f [] i x h = absurd (omega arith)
-sum-at f (y ∷ xs) zero x h = omega arith
-sum-at f (y ∷ xs) (suc i) x h = omega (arith, sum-at f xs i x (omega arith))
 
 -- Where the totals are equal, the due longs of a security suffice for what is open of its due shorts
 pub longs-suffice : (b : Book) (n q : ℕ) → Even (b .day) (b .positions) → Dealable b n q → q ≤ openOf (dueLong (b .day) (positionOf b n .security)) (b .positions)
@@ -195,7 +190,7 @@ longs-suffice b n q even f =
     let p : Position = positionOf b n in
     let s : ℕ = p .security in
     let is : dueShort (b .day) s p ≡ true = both (p .short && eqb (p .security) s) _ (both (p .short) _ (f .short) (eq-eqb s s refl)) (f .is-due) in
-    let at : only (dueShort (b .day) s p) (p .unsettled) ≤ openOf (dueShort (b .day) s) (b .positions) = sum-at (λ q. only (dueShort (b .day) s q) (q .unsettled)) (b .positions) (n - 1) noPosition (omega (arith, f .held .above, f .held .below)) in
+    let at : only (dueShort (b .day) s p) (p .unsettled) ≤ openOf (dueShort (b .day) s) (b .positions) = sum-named noPosition (λ q. only (dueShort (b .day) s q) (q .unsettled)) (b .positions) n (f .held) in
     omega (arith, rw is at at, even .opened s, f .enough)
 
 -- and a discharge is dealt out whole
@@ -219,7 +214,7 @@ deals b m n q even f =
 
 -- Pricing changes no short, long, quantity or manner
 pub deals-priced : (b : Book) (m : Manner) (n q : ℕ) (xs : List Piece) → Deals b m n q xs → Deals b m n q (map (priced b) xs)
-unfolding priced
+unfolding priced pricedBy
 deals-priced b m n q xs f =
     record {
       dealable = f .dealable;

@@ -10,7 +10,7 @@ use lib.ListN.{length, getD}
 use lib.Dec.{eqb}
 use borrow.Author.Tests.{eq-eqb, ne-eqb, eqb-true, eqb-false, lt-leb}
 use Rattle.laws.specs.Lists.{All, only, sum, number}
-use Rattle.laws.specs.Asked.{Said, passed, failed, ask}
+use Rattle.laws.specs.Asked.{Said, passed, failed, ask, Within}
 use Rattle.laws.specs.Sums.{only-zero, only-add, only-sub, only-sum, sum-same-all, sum-add, sum-zero}
 use Rattle.laws.specs.Alls.{all-of, all-both, all-at, all-places, length-number, getD-number}
 use Rattle.plain.specs.declared.Position.{Position}
@@ -19,8 +19,8 @@ use Rattle.plain.specs.declared.Manner.{Manner}
 use Rattle.plain.specs.declared.Manner.the-variants.{Delivered, BoughtIn, Cash}
 use Rattle.plain.specs.Book.{Book, noPosition, positionOf, nth}
 use Rattle.plain.specs.Dealing.{mannerNumber, due, longOf, names, taken, takenBy, lowered, lowering}
-use Rattle.plain.proofs.Accepted.{Within}
-use Rattle.plain.proofs.Invariants.{Whole, Untouched, dueShort, dueLong, openOf, shortOn, longOn, Even, DueLong, asLong, Deals}
+use Rattle.plain.specs.Invariants.{Whole, Untouched, dueShort, dueLong, openOf, shortOn, longOn, Even, DueLong, asLong, Deals}
+use Rattle.plain.proofs.Numbered.{nth-at, place-nth}
 
 -- Lowered positions
 
@@ -85,6 +85,10 @@ number-one test j q n (p ∷ ps) h l = go (ask (eqb j n)) (λ h' l'. number-one 
         let next : j - n ≡ suc (j - suc n) = omega arith in
         rw (e, next, only-zero (test p)) (omega (arith, ih (omega arith) (omega arith)))
 
+number-named : (test : Position → Bool) (j q : ℕ) (ps : List Position) → Within 1 (length ps) j → all (number (λ k p. only (test p) (only (eqb j k) q)) 1 ps) ≡ only (test (nth noPosition ps j)) q
+number-named test j q ps h =
+    rw (nth-at noPosition ps j (h .above)) (number-one test j q 1 ps (h .above) (omega (arith, h .below)))
+
 module _ (test : Position → Bool) (ps : List Position) where
   -- what a piece takes from the positions that pass the test
   abbrev weight : Piece → ℕ
@@ -102,8 +106,8 @@ module _ (test : Position → Bool) (ps : List Position) where
             (λ k p. only (test p) (only (eqb (x .short) k) (x .quantity)) + only (test p) (only (eqb (x .long) k) (x .quantity))) 1 ps
             (λ k p. only-add (test p) (only (eqb (x .short) k) (x .quantity)) (only (eqb (x .long) k) (x .quantity))),
         number-add (λ k p. only (test p) (only (eqb (x .short) k) (x .quantity))) (λ k p. only (test p) (only (eqb (x .long) k) (x .quantity))) 1 ps,
-        number-one test (x .short) (x .quantity) 1 ps (s .above) (omega (arith, s .below)),
-        number-one test (x .long) (x .quantity) 1 ps (l .above) (omega (arith, l .below)),
+        number-named test (x .short) (x .quantity) ps s,
+        number-named test (x .long) (x .quantity) ps l,
       )
 
   pub weighed : (xs : List Piece) → All (λ x. Within 1 (length ps) (x .short) × Within 1 (length ps) (x .long)) xs → all (number (λ k p. only (test p) (taken k xs)) 1 ps) ≡ sum weight xs
@@ -173,7 +177,7 @@ module _ {b : Book} {m : Manner} {n q : ℕ} {xs : List Piece} (f : Deals b m n 
       ∙ sum-zero xs
 
   at-place : (i : ℕ) → n ≡ suc i → positionOf b n ≡ getD (b .positions) i noPosition
-  at-place i e = let k : n - 1 ≡ i = omega arith in ap (λ (j : ℕ). getD (b .positions) j noPosition) k
+  at-place i e = place-nth noPosition (b .positions) i n e
 
   pub taken-fits : (i : ℕ) → i < length (b .positions) → taken (suc i) xs ≤ getD (b .positions) i noPosition .unsettled
   taken-fits i h = go (ask (eqb n (suc i)))
@@ -195,9 +199,7 @@ module _ {b : Book} {m : Manner} {n q : ℕ} {xs : List Piece} (f : Deals b m n 
   taken-early i h e =
       taken-other (suc i) (λ d. true≢false (sym (f .dealable .is-due) ∙ ap (λ (p : Position). due (b .day) p) (at-place i (sym d)) ∙ e))
       ∙ no-long (suc i)
-      (λ l.
-      let k : suc i - 1 ≡ i = omega arith in
-      true≢false (sym (l .is-due) ∙ ap (λ (j : ℕ). due (b .day) (getD (b .positions) j noPosition)) k ∙ e))
+      (λ l. true≢false (sym (l .is-due) ∙ e))
 
   -- the manner decides which figure rises
   pub taken-by : (w : Manner) (k : ℕ) → takenBy w k xs ≡ only (eqb (mannerNumber m) (mannerNumber w)) (taken k xs)

@@ -5,7 +5,7 @@ use mathlib.Core.List.{List, [], _∷_, _++_, map, append-assoc, append-nil, map
 use lib.ListN.{length, length-map, getD}
 use Rattle.laws.specs.Lists.{number, All}
 use Rattle.laws.specs.Refusals.{accepted}
-use Rattle.register.specs.declared.Register.{Register}
+use Rattle.plain.specs.declared.Opening.{Opening}
 use Rattle.events.specs.declared.Trade.{Trade}
 use Rattle.events.specs.declared.Event.{Event}
 use Rattle.events.specs.declared.Event.the-variants as event
@@ -13,27 +13,11 @@ use Rattle.plain.specs.declared.Position.{Position}
 use Rattle.plain.specs.declared.Piece.{Piece}
 use Rattle.plain.specs.Book.{Book, new, noPosition}
 use Rattle.plain.specs.Netting.{Key, keys, netted}
-use Rattle.plain.specs.Dealing.{lowered, lowering}
+use Rattle.plain.specs.Dealing.{lowered, lowering, fresh}
 use Rattle.plain.specs.Calls.{Call, discharged, handsOut, done}
 use Rattle.plain.specs.Refusals.{refusal}
-use Rattle.plain.specs.Histories.{eventOf, next, run, acceptedEvents, formed}
+use Rattle.plain.specs.Histories.{eventOf, next, run, acceptedEvents, formed, formedBy}
 use Rattle.plain.proofs.Netted.{New, netted-new}
-
--- a position as it was made: all of it is open
-unfoldable pub fresh : Position → Position
-fresh p =
-    record {
-      member = p .member;
-      security = p .security;
-      short = p .short;
-      settlement = p .settlement;
-      reference = p .reference;
-      netted = p .netted;
-      delivered = 0;
-      bought = 0;
-      cash = 0;
-      unsettled = p .netted;
-    }
 
 fresh-number : (xs : List Piece) (n : ℕ) (ps : List Position) → map fresh (number (lowered xs) n ps) ≡ map fresh ps
 unfolding fresh lowered
@@ -72,7 +56,7 @@ fresh-netted day trades ks = all-fresh day (netted day trades ks) (netted-new da
 
 -- what a book's positions were made as, and what later events make
 abbrev with-later : Book → List Event → List Position
-with-later b es = map fresh (b .positions) ++ formed (keys (b .register .count)) (b .day) (b .trades) es
+with-later b es = map fresh (b .positions) ++ formed (keys (b .opening .register .count)) (b .day) (b .trades) es
 
 discharge-forms : (xs : List Piece) (ps later : List Position) → map fresh (lowering xs ps) ++ later ≡ map fresh ps ++ later
 discharge-forms xs ps later = ap (λ (l : List Position). l ++ later) (fresh-lowering xs ps)
@@ -86,28 +70,28 @@ done-forms : (b : Book) (e : Event) (es : List Event) → with-later (done b e) 
 unfolding done discharged formed
 done-forms b (event.Trade t) es = refl
 done-forms b (event.Price p) es = refl
-done-forms b (event.Delivery d) es = discharge-forms (handsOut b (event.Delivery d)) (b .positions) (formed (keys (b .register .count)) (b .day) (b .trades) es)
+done-forms b (event.Delivery d) es = discharge-forms (handsOut b (event.Delivery d)) (b .positions) (formed (keys (b .opening .register .count)) (b .day) (b .trades) es)
 done-forms b (event.Attempt a) es = refl
 done-forms b (event.Offer o) es = refl
 done-forms b (event.Award a) es = refl
-done-forms b (event.Confirm c) es = discharge-forms (handsOut b (event.Confirm c)) (b .positions) (formed (keys (b .register .count)) (b .day) (b .trades) es)
-done-forms b (event.Cash c) es = discharge-forms (handsOut b (event.Cash c)) (b .positions) (formed (keys (b .register .count)) (b .day) (b .trades) es)
-done-forms b event.Close es = close-forms (b .day) (b .trades) (keys (b .register .count)) (b .positions) (formed (keys (b .register .count)) (suc (b .day)) [] es)
+done-forms b (event.Confirm c) es = discharge-forms (handsOut b (event.Confirm c)) (b .positions) (formed (keys (b .opening .register .count)) (b .day) (b .trades) es)
+done-forms b (event.Cash c) es = discharge-forms (handsOut b (event.Cash c)) (b .positions) (formed (keys (b .opening .register .count)) (b .day) (b .trades) es)
+done-forms b event.Close es = close-forms (b .day) (b .trades) (keys (b .opening .register .count)) (b .positions) (formed (keys (b .opening .register .count)) (suc (b .day)) [] es)
 
 either-forms : (n : ℕ) (b : Book) (e : Event) (es : List Event) → with-later (accepted n (done b e) b) es ≡ with-later b (accepted n (e ∷ []) [] ++ es)
 either-forms zero b e es = done-forms b e es
 either-forms (suc n) b e es = refl
 
-pub formed-run : (b : Book) (cs : List Call) → map fresh (run b cs .positions) ≡ map fresh (b .positions) ++ formed (keys (b .register .count)) (b .day) (b .trades) (acceptedEvents b cs)
+pub formed-run : (b : Book) (cs : List Call) → map fresh (run b cs .positions) ≡ map fresh (b .positions) ++ formed (keys (b .opening .register .count)) (b .day) (b .trades) (acceptedEvents b cs)
 unfolding run acceptedEvents formed
 formed-run b [] = sym (append-nil (map fresh (b .positions)))
 formed-run b (c ∷ cs) =
     formed-run (next b c) cs ∙ unfold next in either-forms (refusal b c) b (eventOf c) (acceptedEvents (next b c) cs)
 
 -- from a new book: what the accepted trades and closes make
-pub formed-new : (register : Register) (cs : List Call) → map fresh (run (new register) cs .positions) ≡ formed (keys (register .count)) 1 [] (acceptedEvents (new register) cs)
+pub formed-new : (opening : Opening) (cs : List Call) → map fresh (run (new opening) cs .positions) ≡ formedBy opening (acceptedEvents (new opening) cs)
 unfolding new
-formed-new register cs = formed-run (new register) cs
+formed-new opening cs = formed-run (new opening) cs
 
 -- the same of each place
 fresh-at : (ps : List Position) (i : ℕ) → fresh (getD ps i noPosition) ≡ getD (map fresh ps) i noPosition
@@ -116,13 +100,13 @@ fresh-at [] i = refl
 fresh-at (p ∷ ps) zero = refl
 fresh-at (p ∷ ps) (suc i) = fresh-at ps i
 
-pub formed-many : (register : Register) (cs : List Call) → length (run (new register) cs .positions) ≡ length (formed (keys (register .count)) 1 [] (acceptedEvents (new register) cs))
-formed-many register cs = sym (length-map (run (new register) cs .positions) fresh) ∙ ap length (formed-new register cs)
+pub formed-many : (opening : Opening) (cs : List Call) → length (run (new opening) cs .positions) ≡ length (formedBy opening (acceptedEvents (new opening) cs))
+formed-many opening cs = sym (length-map (run (new opening) cs .positions) fresh) ∙ ap length (formed-new opening cs)
 
-pub formed-at : (register : Register) (cs : List Call) (i : ℕ) → fresh (getD (run (new register) cs .positions) i noPosition) ≡ getD (formed (keys (register .count)) 1 [] (acceptedEvents (new register) cs)) i noPosition
-formed-at register cs i =
-    fresh-at (run (new register) cs .positions) i ∙ ap (λ (l : List Position). getD l i noPosition) (formed-new register cs)
+pub formed-at : (opening : Opening) (cs : List Call) (i : ℕ) → fresh (getD (run (new opening) cs .positions) i noPosition) ≡ getD (formedBy opening (acceptedEvents (new opening) cs)) i noPosition
+formed-at opening cs i =
+    fresh-at (run (new opening) cs .positions) i ∙ ap (λ (l : List Position). getD l i noPosition) (formed-new opening cs)
 
-pub formed-netted : (register : Register) (cs : List Call) (i : ℕ) → getD (run (new register) cs .positions) i noPosition .netted ≡ getD (formed (keys (register .count)) 1 [] (acceptedEvents (new register) cs)) i noPosition .netted
+pub formed-netted : (opening : Opening) (cs : List Call) (i : ℕ) → getD (run (new opening) cs .positions) i noPosition .netted ≡ getD (formedBy opening (acceptedEvents (new opening) cs)) i noPosition .netted
 unfolding fresh
-formed-netted register cs i = ap (λ (p : Position). p .netted) (formed-at register cs i)
+formed-netted opening cs i = ap (λ (p : Position). p .netted) (formed-at opening cs i)

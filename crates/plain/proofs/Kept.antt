@@ -4,49 +4,56 @@ use native.Mathlib.Omega.{arith}
 use mathlib.Core.Path.{_≡_, refl, _∙_}
 use mathlib.Core.List.{List, [], _∷_, _++_}
 use lib.ListN.{length, set, length-append, length-set}
+use Rattle.laws.specs.Limits.{MOST-PRICE}
 use Rattle.laws.specs.Lists.{All}
 use Rattle.laws.specs.Alls.{all-append, all-of, all-number, all-set}
-use Rattle.register.specs.declared.Register.{Register}
 use Rattle.events.specs.declared.Trade.{Trade}
 use Rattle.events.specs.declared.Price.{Price}
 use Rattle.events.specs.declared.Event.the-variants as event
 use Rattle.plain.specs.declared.Position.{Position}
 use Rattle.plain.specs.declared.Piece.{Piece}
 use Rattle.plain.specs.Book.{Book}
+use Rattle.plain.specs.declared.Opening.{Opening}
+use Rattle.plain.specs.declared.Latest.{Latest}
+use Rattle.plain.specs.Changing.{withDay, withPast, withTrades, withPrices, withPositions}
 use Rattle.plain.specs.Netting.{keys, netted}
 use Rattle.plain.specs.Dealing.{lowered, lowering}
 use Rattle.plain.specs.Calls.{Call, call, discharged, handsOut, done}
 use Rattle.plain.specs.Refusals.{refusal}
 use Rattle.plain.specs.Histories.{eventOf, run}
-use Rattle.plain.proofs.Accepted.{run-keeps, Within, TradeTaken, PriceTaken, CloseTaken, trade-taken, price-taken, close-taken}
-use Rattle.plain.proofs.Invariants.{TradeFits, Fair}
+use Rattle.laws.specs.Asked.{Within}
+use Rattle.plain.proofs.Accepted.{run-keeps, TradeTaken, PriceTaken, CloseTaken, trade-taken, price-taken, close-taken}
+use Rattle.plain.specs.Invariants.{TradeFits, Fair}
 use Rattle.plain.proofs.Discharged.{length-lowering}
 use Rattle.plain.proofs.Netted.{keys-once, keys-fit, netted-fair, netted-count}
+use Rattle.plain.specs.Sound.{PricesFit}
 
 -- the parts of a book that are spoken of here
 pub record Parts : Type 0 where
-  pub register : Register
+  pub opening : Opening
   pub day : ℕ
   pub past : ℕ
   pub trades : List Trade
-  pub prices : List ℕ
+  pub prices : List Latest
   pub positions : List Position
 
 abbrev pub parts : Book → Parts
 parts b =
-    record { register = b .register; day = b .day; past = b .past; trades = b .trades; prices = b .prices; positions = b .positions }
+    record { opening = b .opening; day = b .day; past = b .past; trades = b .trades; prices = b .prices; positions = b .positions }
 
 -- A call leaves these parts as they were, or adds a trade, sets a price, lowers positions, or closes the day.
 pub record Steps (P : Parts → Type 0) (b : Book) : Type 0 where
   pub kept : P (parts b)
-  pub traded : (t : Trade) → TradeTaken b t
-      → P (record { register = b .register; day = b .day; past = b .past; trades = b .trades ++ t ∷ []; prices = b .prices; positions = b .positions })
-  pub priced : (p : Price) → PriceTaken b p
-      → P (record { register = b .register; day = b .day; past = b .past; trades = b .trades; prices = set (b .prices) (p .security - 1) (p .price); positions = b .positions })
-  pub lowers : (xs : List Piece)
-      → P (record { register = b .register; day = b .day; past = b .past; trades = b .trades; prices = b .prices; positions = lowering xs (b .positions) })
-  pub closed : CloseTaken b
-      → P (record { register = b .register; day = suc (b .day); past = b .past + length (b .trades); trades = []; prices = b .prices; positions = b .positions ++ netted (b .day) (b .trades) (keys (b .register .count)) })
+  pub traded : (t : Trade) → TradeTaken b t → P (parts (withTrades b (b .trades ++ t ∷ [])))
+  pub priced : (p : Price) → PriceTaken b p → P (parts (withPrices b (set (b .prices) (p .security - 1) (record { price = p .price }))))
+  pub lowers : (xs : List Piece) → P (parts (withPositions b (lowering xs (b .positions))))
+  pub closed : CloseTaken b → P
+      (parts
+      (withDay
+      (withTrades
+      (withPast (withPositions b (b .positions ++ netted (b .day) (b .trades) (keys (b .opening .register .count)))) (b .past + length (b .trades)))
+      [])
+      (suc (b .day))))
 
 pub done-steps : (P : Parts → Type 0) (b : Book) (c : Call) → refusal b c ≡ 0 → Steps P b → P (parts (done b (eventOf c)))
 unfolding done discharged
@@ -60,16 +67,16 @@ done-steps P b (call (event.Confirm c) sheet) e s = s .lowers (handsOut b (event
 done-steps P b (call (event.Cash c) sheet) e s = s .lowers (handsOut b (event.Cash c))
 done-steps P b (call event.Close sheet) e s = s .closed (close-taken b sheet e)
 
--- THE REGISTER
+-- WHAT IT WAS OPENED WITH
 
-pub done-register : (b : Book) (c : Call) → refusal b c ≡ 0 → done b (eventOf c) .register ≡ b .register
-done-register b c e =
-    done-steps (λ x. x .register ≡ b .register) b c e
+pub done-opening : (b : Book) (c : Call) → refusal b c ≡ 0 → done b (eventOf c) .opening ≡ b .opening
+done-opening b c e =
+    done-steps (λ x. x .opening ≡ b .opening) b c e
     (record { kept = refl; traded = λ t k. refl; priced = λ p k. refl; lowers = λ xs. refl; closed = λ k. refl })
 
--- no history changes the register
-pub run-register : (b : Book) (cs : List Call) → run b cs .register ≡ b .register
-run-register b cs = run-keeps (λ x. x .register ≡ b .register) (λ x c e h. done-register x c e ∙ h) b cs refl
+-- no history changes it
+pub run-opening : (b : Book) (cs : List Call) → run b cs .opening ≡ b .opening
+run-opening b cs = run-keeps (λ x. x .opening ≡ b .opening) (λ x c e h. done-opening x c e ∙ h) b cs refl
 
 -- THE DAY
 
@@ -86,16 +93,16 @@ done-day b c e h =
 
 -- THE TRADES
 
-trade-fits : (b : Book) (t : Trade) → TradeTaken b t → TradeFits (b .register .count) t
+trade-fits : (b : Book) (t : Trade) → TradeTaken b t → TradeFits (b .opening .register .count) t
 trade-fits b t k =
     record { seller = k .seller; buyer = k .buyer; security = k .security; quantity = k .quantity; price = k .price }
 
-pub done-trades : (b : Book) (c : Call) → refusal b c ≡ 0 → All (TradeFits (b .register .count)) (b .trades) → All (TradeFits (done b (eventOf c) .register .count)) (done b (eventOf c) .trades)
+pub done-trades : (b : Book) (c : Call) → refusal b c ≡ 0 → All (TradeFits (b .opening .register .count)) (b .trades) → All (TradeFits (done b (eventOf c) .opening .register .count)) (done b (eventOf c) .trades)
 done-trades b c e h =
-    done-steps (λ x. All (TradeFits (x .register .count)) (x .trades)) b c e
+    done-steps (λ x. All (TradeFits (x .opening .register .count)) (x .trades)) b c e
     (record {
       kept = h;
-      traded = λ t k. all-append (TradeFits (b .register .count)) (b .trades) (t ∷ []) h (trade-fits b t k, tt);
+      traded = λ t k. all-append (TradeFits (b .opening .register .count)) (b .trades) (t ∷ []) h (trade-fits b t k, tt);
       priced = λ p k. h;
       lowers = λ xs. h;
       closed = λ k. tt;
@@ -115,10 +122,6 @@ done-held b c e h =
 
 -- THE PRICES
 
-pub record PricesFit (prices : List ℕ) : Type 0 where
-  pub many : length prices ≡ 32
-  pub small : All (λ p. p ≤ 10000000) prices
-
 pub done-prices : (b : Book) (c : Call) → refusal b c ≡ 0 → PricesFit (b .prices) → PricesFit (done b (eventOf c) .prices)
 done-prices b c e h =
     done-steps (λ x. PricesFit (x .prices)) b c e
@@ -127,8 +130,8 @@ done-prices b c e h =
       traded = λ t k. h;
       priced = λ p k.
           record {
-            many = length-set (b .prices) (p .security - 1) (p .price) ∙ h .many;
-            small = all-set (λ p. p ≤ 10000000) (b .prices) (p .security - 1) (p .price) (k .price .below) (h .small);
+            many = length-set (b .prices) (p .security - 1) (record { price = p .price }) ∙ h .many;
+            small = all-set (λ l. l .price ≤ MOST-PRICE) (b .prices) (p .security - 1) (record { price = p .price }) (k .price .below) (h .small);
           };
       lowers = λ xs. h;
       closed = λ k. h;
@@ -156,16 +159,16 @@ close-fair count day trades ps fits few h =
     all-append (Fair count (suc day)) ps (netted day trades (keys count)) (later-fair count day ps h)
     (netted-fair count day trades fits few (keys count) (keys-fit count))
 
-pub done-fair : (b : Book) (c : Call) → refusal b c ≡ 0 → All (TradeFits (b .register .count)) (b .trades) → b .past + length (b .trades) ≤ 512
-    → All (Fair (b .register .count) (b .day)) (b .positions) → All (Fair (done b (eventOf c) .register .count) (done b (eventOf c) .day)) (done b (eventOf c) .positions)
+pub done-fair : (b : Book) (c : Call) → refusal b c ≡ 0 → All (TradeFits (b .opening .register .count)) (b .trades) → b .past + length (b .trades) ≤ 512
+    → All (Fair (b .opening .register .count) (b .day)) (b .positions) → All (Fair (done b (eventOf c) .opening .register .count) (done b (eventOf c) .day)) (done b (eventOf c) .positions)
 done-fair b c e fits held h =
-    done-steps (λ x. All (Fair (x .register .count) (x .day)) (x .positions)) b c e
+    done-steps (λ x. All (Fair (x .opening .register .count) (x .day)) (x .positions)) b c e
     (record {
       kept = h;
       traded = λ t k. h;
       priced = λ p k. h;
-      lowers = λ xs. lowering-fair (b .register .count) (b .day) xs (b .positions) h;
-      closed = λ k. close-fair (b .register .count) (b .day) (b .trades) (b .positions) fits (omega arith) h;
+      lowers = λ xs. lowering-fair (b .opening .register .count) (b .day) xs (b .positions) h;
+      closed = λ k. close-fair (b .opening .register .count) (b .day) (b .trades) (b .positions) fits (omega arith) h;
     })
 
 -- at most two positions a trade of an earlier day
@@ -180,7 +183,7 @@ done-counted b c e h =
       closed = λ k.
           omega (
             arith,
-            length-append (b .positions) (netted (b .day) (b .trades) (keys (b .register .count))),
-            netted-count (b .day) (b .trades) (keys (b .register .count)) (keys-once (b .register .count)),
+            length-append (b .positions) (netted (b .day) (b .trades) (keys (b .opening .register .count))),
+            netted-count (b .day) (b .trades) (keys (b .opening .register .count)) (keys-once (b .opening .register .count)),
           );
     })

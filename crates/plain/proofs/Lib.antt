@@ -1,5 +1,5 @@
+pub mod Numbered
 pub mod Accepted
-pub mod Invariants
 pub mod Netted
 pub mod Dealt
 pub mod Discharged

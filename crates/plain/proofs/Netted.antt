@@ -9,16 +9,15 @@ use lib.ListN.{length}
 use lib.Dec.{ltb, eqb}
 use borrow.Author.Tests.{ltb-true, ltb-false, eqb-true}
 use Rattle.laws.specs.Lists.{only, keep, sum, each, range, All}
-use Rattle.laws.specs.Asked.{Said, passed, failed, ask, and-right}
+use Rattle.laws.specs.Asked.{Said, passed, failed, ask, and-right, Within}
 use Rattle.laws.specs.Sums.{only-zero, only-le, sum-zero, sum-same, sum-le, sum-keep, sum-each, sum-swap, sum-add, sum-one, sum-once, length-each}
 use Rattle.laws.specs.Sums.{only-sum, sum-length}
 use Rattle.laws.specs.Alls.{all-any, all-keep, all-each, all-of, all-range}
 use Rattle.events.specs.declared.Trade.{Trade}
 use Rattle.plain.specs.declared.Position.{Position}
-use Rattle.plain.specs.Netting.{Key, keys, buys, sells, units, highest, made, net, netted}
+use Rattle.plain.specs.Netting.{Key, keys, buys, sells, units, highest, made, net, netted, netOf}
 use Rattle.plain.specs.Dealing.{longOf}
-use Rattle.plain.proofs.Accepted.{Within}
-use Rattle.plain.proofs.Invariants.{TradeFits, Fair, Whole, nettedOf, shortOn, longOn}
+use Rattle.plain.specs.Invariants.{TradeFits, Fair, Whole, nettedOf, shortOn, longOn, KeyFits}
 
 -- KEYS
 
@@ -34,10 +33,6 @@ Once ks = (member security c : ℕ) → sum (λ k. only (isKey member security k
 abbrev pub Complete : ℕ → List Key → Type 0
 Complete count ks =
     (member security c : ℕ) → Within 1 63 member → Within 1 count security → sum (λ k. only (isKey member security k) c) ks ≡ c
-
-pub record KeyFits (count : ℕ) (k : Key) : Type 0 where
-  pub member : Within 1 63 (k .member)
-  pub security : Within 1 count (k .security)
 
 abbrev key : ℕ → ℕ → Key
 key m s = record { member = m; security = s }
@@ -153,13 +148,13 @@ module _ (day : ℕ) (trades : List Trade) (k : Key) where
   longMade = made day k false (boughtBy - soldBy) (highest (buys k) trades)
 
   pub all-net : (P : Position → Type 0) → (boughtBy < soldBy → P shortMade) → (soldBy < boughtBy → P longMade) → All P (net day trades k)
-  unfolding net
+  unfolding net netOf
   all-net P h l =
       all-keep P (ltb boughtBy soldBy) shortMade (keep (ltb soldBy boughtBy) longMade []) (λ e. h (ltb-true boughtBy soldBy e))
       (all-keep P (ltb soldBy boughtBy) longMade [] (λ e. l (ltb-true soldBy boughtBy e)) tt)
 
   pub sum-net : (f : Position → ℕ) → sum f (net day trades k) ≡ only (ltb boughtBy soldBy) (f shortMade) + only (ltb soldBy boughtBy) (f longMade)
-  unfolding net
+  unfolding net netOf
   sum-net f =
       omega (
         arith,

@@ -19,7 +19,7 @@ use Rattle.plain.specs.Dealing.{due, longOf, Taker, longsOn, takers, low
 use Rattle.plain.specs.Calls.{Call, done}
 use Rattle.plain.specs.Refusals.{refusal}
 use Rattle.plain.specs.Histories.{eventOf}
-use Rattle.plain.proofs.Invariants.{Fair, Rising}
+use Rattle.plain.specs.Invariants.{Fair, Rising}
 use Rattle.plain.proofs.Netted.{New, netted-new}
 use Rattle.plain.proofs.Kept.{done-steps}
 
@@ -51,19 +51,19 @@ unfolding lowering
 lowering-rising xs ps r = rising-number xs 1 ps r
 
 -- "A position's delivery day S is the trade day plus 2": all older positions settle by the day after today
-pub close-rising : (b : Book) → All (Fair (b .register .count) (b .day)) (b .positions) → Rising (b .positions) → Rising (b .positions ++ netted (b .day) (b .trades) (keys (b .register .count)))
+pub close-rising : (b : Book) → All (Fair (b .opening .register .count) (b .day)) (b .positions) → Rising (b .positions) → Rising (b .positions ++ netted (b .day) (b .trades) (keys (b .opening .register .count)))
 close-rising b h r =
     rising-append (b .day + 1) (b .positions) fresh r (rising-on (b .day + 2) fresh on-day)
-    (all-of (Fair (b .register .count) (b .day)) (λ p. p .settlement .0 ≤ b .day + 1) (b .positions) (λ p f. f .settlement) h)
+    (all-of (Fair (b .opening .register .count) (b .day)) (λ p. p .settlement .0 ≤ b .day + 1) (b .positions) (λ p f. f .settlement) h)
     (all-of (λ p. p .settlement .0 ≡ b .day + 2) (λ p. b .day + 1 ≤ p .settlement .0) fresh (λ p e. omega arith) on-day)
   where
     fresh : List Position
-    fresh = netted (b .day) (b .trades) (keys (b .register .count))
+    fresh = netted (b .day) (b .trades) (keys (b .opening .register .count))
 
     on-day : All (λ p. p .settlement .0 ≡ b .day + 2) fresh
-    on-day = all-of (New (b .day)) (λ p. p .settlement .0 ≡ b .day + 2) fresh (λ p f. f .settlement) (netted-new (b .day) (b .trades) (keys (b .register .count)))
+    on-day = all-of (New (b .day)) (λ p. p .settlement .0 ≡ b .day + 2) fresh (λ p f. f .settlement) (netted-new (b .day) (b .trades) (keys (b .opening .register .count)))
 
-pub done-rising : (b : Book) (c : Call) → refusal b c ≡ 0 → All (Fair (b .register .count) (b .day)) (b .positions) → Rising (b .positions) → Rising (done b (eventOf c) .positions)
+pub done-rising : (b : Book) (c : Call) → refusal b c ≡ 0 → All (Fair (b .opening .register .count) (b .day)) (b .positions) → Rising (b .positions) → Rising (done b (eventOf c) .positions)
 done-rising b c e h r =
     done-steps (λ x. Rising (x .positions)) b c e
     (record {

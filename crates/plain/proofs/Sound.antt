@@ -1,43 +1,30 @@
 -- What holds of every book that a history reaches from a new one: all parts together.
-use Prim.Native.Nat.{ℕ}
 use native.Mathlib.Omega.{arith}
 use mathlib.Core.Path.{_≡_, refl}
 use mathlib.Core.List.{List, []}
-use Rattle.laws.specs.Lists.{All}
 use Rattle.rules.specs.Prices.{ceiling}
-use Rattle.register.specs.declared.Register.{Register}
+use Rattle.plain.specs.declared.Opening.{Opening}
 use Rattle.events.specs.declared.Event.{Event}
 use Rattle.events.specs.declared.Event.the-variants as event
-use Rattle.plain.specs.declared.Position.{Position}
 use Rattle.plain.specs.declared.Manner.the-variants as manner
-use Rattle.plain.specs.Book.{Book, new, noAuction, positionOf, classOf, latestOf}
+use Rattle.plain.specs.Book.{Book, firstDay, new, noAuction, positionOf, classOf, latestOf}
 use Rattle.plain.specs.Netting.{keys, netted}
 use Rattle.plain.specs.Calls.{Call, call, discharged, handsOut, done}
 use Rattle.plain.specs.Refusals.{refusal}
 use Rattle.plain.specs.Histories.{eventOf, run}
 use Rattle.plain.proofs.Accepted.{run-keeps, attempt-taken, offer-taken, award-taken, delivery-taken, confirm-taken, cash-taken, close-taken}
-use Rattle.plain.proofs.Invariants.{Whole, Untouched, Even, Dealt}
+use Rattle.plain.specs.Invariants.{Dealt}
 use Rattle.plain.proofs.Netted.{Netting, netting}
 use Rattle.plain.proofs.Discharged.{whole-lowered, untouched-lowered, even-lowered}
-use Rattle.plain.proofs.AwardSteps.{AuctionedBook, attempt-keeps, offer-keeps, award-keeps, delivery-keeps, confirm-keeps, cash-keeps, close-keeps}
+use Rattle.plain.specs.Sound.{AuctionedBook, Sound, Settled}
+use Rattle.plain.proofs.AwardSteps.{attempt-keeps, offer-keeps, award-keeps, delivery-keeps, confirm-keeps, cash-keeps, close-keeps}
 use Rattle.plain.proofs.Closing.{even-closed, untouched-closed, whole-closed}
-use Rattle.plain.proofs.Standing.{Standing, new-standing, done-standing}
+use Rattle.plain.proofs.Standing.{new-standing, done-standing}
 use Rattle.plain.proofs.Steps.{Step, discharge, close, stay, dealt-of, step-of}
 
--- what discharges and closes do to the positions
-pub record Settled (day : ℕ) (ps : List Position) : Type 0 where
-  pub even : Even day ps
-  pub untouched : All (Untouched day) ps
-  pub whole : All Whole ps
-
-pub record Sound (b : Book) : Type 0 where
-  pub standing : Standing b
-  pub settled : Settled (b .day) (b .positions)
-  pub auctioned : AuctionedBook b
-
 module _ (b : Book) (h : Sound b) where
-  made : Netting (b .register .count) (b .day) (b .trades) (netted (b .day) (b .trades) (keys (b .register .count)))
-  made = netting (b .register .count) (b .day) (b .trades) (h .standing .trades) (omega (arith, h .standing .held))
+  made : Netting (b .opening .register .count) (b .day) (b .trades) (netted (b .day) (b .trades) (keys (b .opening .register .count)))
+  made = netting (b .opening .register .count) (b .day) (b .trades) (h .standing .trades) (omega (arith, h .standing .held))
 
   pub sound-step : (c : Call) → refusal b c ≡ 0 → Step b (eventOf c)
   sound-step c e = step-of b (h .settled .even) (h .auctioned) c e
@@ -56,9 +43,9 @@ module _ (b : Book) (h : Sound b) where
   settled-step e (close none ps day) =
       rw (ps, day)
       (record {
-        even = even-closed (b .day) (b .positions) (netted (b .day) (b .trades) (keys (b .register .count))) (h .settled .untouched) (made .new) (h .settled .even) (made .even);
-        untouched = untouched-closed (b .day) (b .positions) (netted (b .day) (b .trades) (keys (b .register .count))) (h .settled .untouched) (made .new);
-        whole = whole-closed (b .day) (b .positions) (netted (b .day) (b .trades) (keys (b .register .count))) (h .settled .whole) (made .new);
+        even = even-closed (b .day) (b .positions) (netted (b .day) (b .trades) (keys (b .opening .register .count))) (h .settled .untouched) (made .new) (h .settled .even) (made .even);
+        untouched = untouched-closed (b .day) (b .positions) (netted (b .day) (b .trades) (keys (b .opening .register .count))) (h .settled .untouched) (made .new);
+        whole = whole-closed (b .day) (b .positions) (netted (b .day) (b .trades) (keys (b .opening .register .count))) (h .settled .whole) (made .new);
       })
   settled-step e (stay none ps day) = rw (ps, day) (h .settled)
 
@@ -78,7 +65,7 @@ module _ (b : Book) (h : Sound b) where
   auctioned-step (call (event.Cash c) sheet) e =
       cash-keeps b c (handsOut b (event.Cash c)) manner.Cash (positionOf b (c .position) .unsettled) (cash-taken b c sheet e) (omega arith) (sound-dealt (call (event.Cash c) sheet) e) (h .auctioned)
   auctioned-step (call event.Close sheet) e =
-      close-keeps (b .register) _ _ (b .auction) (close-taken b sheet e .quiet) (h .auctioned .offers-fit) (h .auctioned .few-offers)
+      close-keeps (b .opening .register) _ _ (b .auction) (close-taken b sheet e .quiet) (h .auctioned .offers-fit) (h .auctioned .few-offers)
 
 pub done-sound : (b : Book) (c : Call) → refusal b c ≡ 0 → Sound b → Sound (done b (eventOf c))
 done-sound b c e h =
@@ -88,18 +75,18 @@ done-sound b c e h =
       auctioned = auctioned-step b h c e;
     }
 
-pub new-sound : (register : Register) → Sound (new register)
+pub new-sound : (opening : Opening) → Sound (new opening)
 unfolding new
-new-sound register =
+new-sound opening =
     record {
-      standing = new-standing register;
+      standing = new-standing opening;
       settled = record { even = record { opened = λ s. refl; made = λ s d. refl }; untouched = tt; whole = tt };
-      auctioned = close-keeps register 1 [] noAuction refl tt (omega arith);
+      auctioned = close-keeps (opening .register) (firstDay opening) [] noAuction refl tt (omega arith);
     }
 
 pub run-sound : (b : Book) (cs : List Call) → Sound b → Sound (run b cs)
 run-sound b cs h = run-keeps Sound done-sound b cs h
 
 -- after every list of calls from a new book
-pub sound : (register : Register) (cs : List Call) → Sound (run (new register) cs)
-sound register cs = run-sound (new register) cs (new-sound register)
+pub sound : (opening : Opening) (cs : List Call) → Sound (run (new opening) cs)
+sound opening cs = run-sound (new opening) cs (new-sound opening)

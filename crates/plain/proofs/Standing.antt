@@ -1,30 +1,21 @@
 -- What holds of the day, the trades, the prices and the positions of every book that a history reaches from a new one.
-use Prim.Native.Nat.{ℕ, _+_, _*_, _≤_}
+use Prim.Native.Nat.{ℕ, _≤_}
 use native.Mathlib.Omega.{arith}
 use mathlib.Core.Path.{_≡_}
 use mathlib.Core.List.{List}
 use lib.ListN.{length, length-replicate}
-use Rattle.laws.specs.Lists.{All}
+use Rattle.laws.specs.Limits.{SECURITIES, MOST-PRICE}
 use Rattle.laws.specs.Alls.{all-replicate}
-use Rattle.register.specs.declared.Register.{Register}
-use Rattle.plain.specs.Book.{Book, new}
+use Rattle.plain.specs.declared.Opening.{Opening}
+use Rattle.plain.specs.Book.{Book, noPrice, new}
 use Rattle.plain.specs.Dealing.{takers}
 use Rattle.plain.specs.Calls.{Call, done}
 use Rattle.plain.specs.Refusals.{refusal}
 use Rattle.plain.specs.Histories.{eventOf, run}
-use Rattle.plain.proofs.Accepted.{Within, run-keeps}
-use Rattle.plain.proofs.Invariants.{TradeFits, Fair, Rising}
-use Rattle.plain.proofs.Kept.{PricesFit, done-day, done-trades, done-held, done-prices, done-fair, done-counted}
+use Rattle.plain.proofs.Accepted.{run-keeps}
+use Rattle.plain.specs.Sound.{Standing}
+use Rattle.plain.proofs.Kept.{done-day, done-trades, done-held, done-prices, done-fair, done-counted}
 use Rattle.plain.proofs.Order.{done-rising, longsFrom, takers-in-order}
-
-pub record Standing (b : Book) : Type 0 where
-  pub day : Within 1 9999 (b .day)
-  pub trades : All (TradeFits (b .register .count)) (b .trades)
-  pub held : b .past + length (b .trades) ≤ 512
-  pub prices : PricesFit (b .prices)
-  pub fair : All (Fair (b .register .count) (b .day)) (b .positions)
-  pub rising : Rising (b .positions)
-  pub counted : length (b .positions) ≤ 2 * b .past
 
 pub done-standing : (b : Book) (c : Call) → refusal b c ≡ 0 → Standing b → Standing (done b (eventOf c))
 done-standing b c e h =
@@ -38,14 +29,14 @@ done-standing b c e h =
       counted = done-counted b c e (h .counted);
     }
 
-pub new-standing : (register : Register) → Standing (new register)
+pub new-standing : (opening : Opening) → Standing (new opening)
 unfolding new
 new-standing register =
     record {
       day = record { above = omega arith; below = omega arith };
       trades = tt;
       held = omega arith;
-      prices = record { many = length-replicate {A = ℕ} 32 0; small = all-replicate (λ p. p ≤ 10000000) 32 0 (omega arith) };
+      prices = record { many = length-replicate SECURITIES noPrice; small = all-replicate (λ p. p .price ≤ MOST-PRICE) SECURITIES noPrice (omega arith) };
       fair = tt;
       rising = tt;
       counted = omega arith;

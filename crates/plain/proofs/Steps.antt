@@ -13,13 +13,14 @@ use Rattle.plain.specs.Calls.{Call, call, dealt, discharged, handsOut, a
 use Rattle.plain.specs.Refusals.{refusal}
 use Rattle.plain.specs.Histories.{eventOf}
 use Rattle.plain.proofs.Accepted.{delivery-taken, confirm-taken, cash-taken}
-use Rattle.plain.proofs.Invariants.{Even, Deals, Dealt}
+use Rattle.plain.specs.Invariants.{Even, Deals, Dealt}
 use Rattle.plain.proofs.Dealt.{deals, deals-priced}
-use Rattle.plain.proofs.AwardSteps.{AuctionedBook, delivery-dealable, confirm-dealable, cash-dealable}
+use Rattle.plain.specs.Sound.{AuctionedBook}
+use Rattle.plain.proofs.AwardSteps.{delivery-dealable, confirm-dealable, cash-dealable}
 
 pub data Step (b : Book) (e : Event) : Type 0 where
   discharge : {m : Manner} {n q : ℕ} → Deals b m n q (handsOut b e) → amount b e ≡ q → done b e .positions ≡ lowering (handsOut b e) (b .positions) → done b e .day ≡ b .day → Step b e
-  close : handsOut b e ≡ [] → done b e .positions ≡ b .positions ++ netted (b .day) (b .trades) (keys (b .register .count)) → done b e .day ≡ suc (b .day) → Step b e
+  close : handsOut b e ≡ [] → done b e .positions ≡ b .positions ++ netted (b .day) (b .trades) (keys (b .opening .register .count)) → done b e .day ≡ suc (b .day) → Step b e
   stay : handsOut b e ≡ [] → done b e .positions ≡ b .positions → done b e .day ≡ b .day → Step b e
 
 module _ (b : Book) (even : Even (b .day) (b .positions)) (auctioned : AuctionedBook b) where

@@ -7,13 +7,13 @@ use lib.ListN.{length, getD, length-append, List·getD-append, List·getD-eq-def
 use lib.Seq.{getD-append-add}
 use lib.Dec.{ltb, eqb}
 use borrow.Author.Tests.{ltb-true, ltb-false}
-use Rattle.laws.specs.Lists.{All, only}
+use Rattle.laws.specs.Lists.{All, only, sum}
 use Rattle.laws.specs.Asked.{Said, passed, failed, ask}
 use Rattle.laws.specs.Listed.{sum-append}
 use Rattle.laws.specs.Sums.{only-zero}
 use Rattle.laws.specs.Alls.{all-at}
 use Rattle.laws.specs.Refusals.{accepted}
-use Rattle.register.specs.declared.Register.{Register}
+use Rattle.plain.specs.declared.Opening.{Opening}
 use Rattle.events.specs.declared.Event.{Event}
 use Rattle.plain.specs.declared.Position.{Position}
 use Rattle.plain.specs.declared.Piece.{Piece}
@@ -21,22 +21,17 @@ use Rattle.plain.specs.declared.Manner.{Manner}
 use Rattle.plain.specs.declared.Manner.the-variants.{Delivered, BoughtIn, Cash}
 use Rattle.plain.specs.Book.{Book, new, noPosition}
 use Rattle.plain.specs.Netting.{keys, netted}
-use Rattle.plain.specs.Dealing.{mannerNumber, names, takenBy, lowered, lowering}
+use Rattle.plain.specs.Dealing.{manners, figure, mannerNumber, names, takenBy, lowered, lowering}
 use Rattle.plain.specs.Calls.{Call, handsOut, done}
 use Rattle.plain.specs.Refusals.{refusal}
 use Rattle.plain.specs.Histories.{eventOf, next, pieces, run, handed}
 use Rattle.plain.proofs.Accepted.{next-keeps}
-use Rattle.plain.proofs.Invariants.{Whole, Deals}
+use Rattle.plain.specs.Invariants.{Whole, Deals}
 use Rattle.plain.proofs.Netted.{New, netted-new}
 use Rattle.plain.proofs.Discharged.{length-lowering, lowering-at, taken-past, taken-by}
 use Rattle.plain.proofs.Steps.{Step, discharge, close, stay}
-use Rattle.plain.proofs.Sound.{Sound, done-sound, sound-step, sound, new-sound}
-
--- the figure of a position that a manner raises
-abbrev pub figure : Manner → Position → ℕ
-figure Delivered p = p .delivered
-figure BoughtIn p = p .bought
-figure Cash p = p .cash
+use Rattle.plain.specs.Sound.{Sound}
+use Rattle.plain.proofs.Sound.{done-sound, sound-step, sound, new-sound}
 
 figure-none : (w : Manner) → figure w noPosition ≡ 0
 figure-none Delivered = refl
@@ -96,7 +91,7 @@ figure-discharged {b} {m} {xs = xs} f w i = go (ask (ltb i (length (b .positions
 figure-done : (b : Book) (e : Event) → Step b e → (w : Manner) (i : ℕ) → figure w (getD (done b e .positions) i noPosition) ≡ figure w (getD (b .positions) i noPosition) + takenBy w (suc i) (handsOut b e)
 figure-done b e (discharge f q ps day) w i = rw ps (figure-discharged f w i)
 figure-done b e (close none ps day) w i =
-    rw (ps, none) (figure-appended w (b .day) (b .positions) (netted (b .day) (b .trades) (keys (b .register .count))) i (netted-new (b .day) (b .trades) (keys (b .register .count))) ∙ omega (arith, taken-none w (suc i)))
+    rw (ps, none) (figure-appended w (b .day) (b .positions) (netted (b .day) (b .trades) (keys (b .opening .register .count))) i (netted-new (b .day) (b .trades) (keys (b .opening .register .count))) ∙ omega (arith, taken-none w (suc i)))
 figure-done b e (stay none ps day) w i = rw (ps, none) (omega (arith, taken-none w (suc i)))
 
 -- Every list of calls
@@ -122,15 +117,14 @@ module _ (w : Manner) (i : ℕ) where
       )
 
 -- Document 01: netted is delivered, bought in, settled in cash and open, the first three summed over all pieces handed out, by manner
-pub tally : (register : Register) (cs : List Call) (i : ℕ) → i < length (run (new register) cs .positions)
-    → getD (run (new register) cs .positions) i noPosition .netted
-    ≡ takenBy Delivered (suc i) (handed (new register) cs) + takenBy BoughtIn (suc i) (handed (new register) cs) + takenBy Cash (suc i) (handed (new register) cs)
-    + getD (run (new register) cs .positions) i noPosition .unsettled
+pub tally : (opening : Opening) (cs : List Call) (i : ℕ) → i < length (run (new opening) cs .positions)
+    → getD (run (new opening) cs .positions) i noPosition .netted
+    ≡ sum (λ m. takenBy m (suc i) (handed (new opening) cs)) manners + getD (run (new opening) cs .positions) i noPosition .unsettled
 unfolding new
-tally register cs i h =
-    let s = sound register cs in
-    let n = new-sound register in
-    let b : Book = new register in
+tally opening cs i h =
+    let s = sound opening cs in
+    let n = new-sound opening in
+    let b : Book = new opening in
     omega (
       arith,
       all-at Whole (run b cs .positions) i noPosition h (s .settled .whole),

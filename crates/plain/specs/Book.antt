@@ -1,12 +1,15 @@
 -- Document 01, 'The plain book': what the plain book keeps, and the book as it opens.
-use Prim.Native.Nat.{ℕ, _-_}
-use mathlib.Core.List.{List, []}
+use Prim.Native.Nat.{ℕ}
+use mathlib.Core.List.{List, [], _∷_}
 use mathlib.Core.Bool.{Bool, false}
 use lib.ListN.{length, getD, replicate}
+use Rattle.laws.specs.Limits.{ACCOUNTS, SECURITIES}
 use Rattle.laws.specs.Asked.{within}
-use Rattle.register.specs.declared.Register.{Register}
+use Rattle.register.specs.Register.{registerRead}
 use Rattle.events.specs.declared.Trade.{Trade}
 use Rattle.events.specs.declared.Offer.{Offer}
+use Rattle.plain.specs.declared.Opening.{Opening}
+use Rattle.plain.specs.declared.Latest.{Latest}
 use Rattle.plain.specs.declared.Position.{Position}
 use Rattle.plain.specs.declared.Award.{Award}
 use Rattle.plain.specs.declared.Ledger.{Ledger}
@@ -19,13 +22,14 @@ pub record Auction : Type 0 where
 
 -- "It keeps register, day, trades, prices, positions, auction, awards, attempt marks, accounts."
 pub record Book : Type 0 where
-  pub register : Register
+  -- what the book was opened with, its register
+  pub opening : Opening
   pub day : ℕ
   -- how many trades of earlier days it holds, and the trades of today
   pub past : ℕ
   pub trades : List Trade
   -- the latest price of each security, 0 where it never had one
-  pub prices : List ℕ
+  pub prices : List Latest
   pub positions : List Position
   pub auction : Auction
   -- the awards of today, in order
@@ -37,20 +41,31 @@ pub record Book : Type 0 where
 abbrev pub noAuction : Auction
 noAuction = record { position = 0; ceiling = 0; offers = [] }
 
+-- what the bytes of a register open a book with
+abbrev pub openingRead : List ℕ → Opening
+openingRead bytes = record { register = registerRead bytes .register }
+
+-- the day on which a book opens: "A new book is at business day 1"
+abbrev pub firstDay : Opening → ℕ
+firstDay opening = 1
+
+abbrev pub noPrice : Latest
+noPrice = record { price = 0 }
+
 -- "Accounts start at 0 cents"; "A new book is at business day 1 and has no trade, position or price."
-unfoldable pub new : Register → Book
-new register =
+unfoldable pub new : Opening → Book
+new opening =
     record {
-      register = register;
-      day = 1;
+      opening = opening;
+      day = firstDay opening;
       past = 0;
       trades = [];
-      prices = replicate 32 0;
+      prices = replicate SECURITIES noPrice;
       positions = [];
       auction = noAuction;
       awards = [];
       marks = [];
-      ledger = record { credits = replicate 64 0; debits = replicate 64 0 };
+      ledger = record { credits = replicate ACCOUNTS 0; debits = replicate ACCOUNTS 0 };
     }
 
 -- what stands where no position or award is
@@ -72,9 +87,9 @@ noPosition =
 abbrev pub noAward : Award
 noAward = record { position = 0; offerer = 0; quantity = 0; price = 0; confirmed = false }
 
--- "Positions are numbered from 1", "awards are numbered from 1", and so are securities: number n of a list
+-- "Positions are numbered from 1", "awards are numbered from 1", and so are securities: number n of a list. Number 0 names nothing
 abbrev pub nth : {A : Type 0} → A → List A → ℕ → A
-nth none list n = getD list (n - 1) none
+nth none list n = getD (none ∷ list) n none
 
 -- number n of a list is there
 abbrev pub there : {A : Type 0} → List A → ℕ → Bool
@@ -88,7 +103,7 @@ awardOf b n = nth noAward (b .awards) n
 
 -- the class of a security, and its latest price, 0 where it never had one
 abbrev pub classOf : Book → ℕ → ℕ
-classOf b security = nth 0 (b .register .classes) security
+classOf b security = nth 0 (b .opening .register .classes) security
 
 abbrev pub latestOf : Book → ℕ → ℕ
-latestOf b security = nth 0 (b .prices) security
+latestOf b security = nth noPrice (b .prices) security .price

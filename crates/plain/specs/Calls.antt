@@ -1,20 +1,18 @@
 -- Document 01, 'The plain book': what each of the nine calls does where it is accepted.
 use Prim.Native.Nat.{ℕ, suc, _+_, _-_}
 use mathlib.Core.List.{List, [], _∷_, _++_, map}
+use mathlib.Core.Bool.{Bool, true, false}
 use lib.ListN.{length, set}
 use Rattle.laws.specs.Lists.{sum, number}
 use Rattle.rules.specs.Prices.{ceiling}
-use Rattle.events.specs.declared.Trade.{Trade}
-use Rattle.events.specs.declared.Delivery.{Delivery}
-use Rattle.events.specs.declared.Offer.{Offer}
-use Rattle.events.specs.declared.Confirm.{Confirm}
 use Rattle.events.specs.declared.Event.{Event}
 use Rattle.events.specs.declared.Event.the-variants as event
 use Rattle.plain.specs.declared.Piece.{Piece}
 use Rattle.plain.specs.declared.Award.{Award}
 use Rattle.plain.specs.declared.Manner.{Manner}
 use Rattle.plain.specs.declared.Manner.the-variants.{Delivered, BoughtIn, Cash}
-use Rattle.plain.specs.Book.{Book, Auction, noAuction, positionOf, awardOf, classOf, latestOf}
+use Rattle.plain.specs.Book.{Book, noAuction, positionOf, awardOf, classOf, latestOf}
+use Rattle.plain.specs.Changing.{withDay, withPast, withTrades, withPrices, withPositions, withAuction, withAwards, withMarks, withLedger}
 use Rattle.plain.specs.Netting.{keys, netted}
 use Rattle.plain.specs.Dealing.{takers, dealTo, lowering}
 use Rattle.plain.specs.Auction.{byPrice, awarded, confirmedAward}
@@ -24,35 +22,13 @@ use Rattle.plain.specs.Charging.{Charge, posted, buyInCharges, priced, c
 pub data Call : Type 0 where
   call : Event → ℕ → Call
 
--- A book with one part changed
-abbrev pub withTrades : Book → List Trade → Book
-withTrades b x =
-    record { register = b .register; day = b .day; past = b .past; trades = x; prices = b .prices; positions = b .positions; auction = b .auction; awards = b .awards; marks = b .marks; ledger = b .ledger }
-
-abbrev pub withPrices : Book → List ℕ → Book
-withPrices b x =
-    record { register = b .register; day = b .day; past = b .past; trades = b .trades; prices = x; positions = b .positions; auction = b .auction; awards = b .awards; marks = b .marks; ledger = b .ledger }
-
-abbrev pub withAuction : Book → Auction → Book
-withAuction b x =
-    record { register = b .register; day = b .day; past = b .past; trades = b .trades; prices = b .prices; positions = b .positions; auction = x; awards = b .awards; marks = b .marks; ledger = b .ledger }
-
-abbrev pub withAwards : Book → List Award → Book
-withAwards b x =
-    record { register = b .register; day = b .day; past = b .past; trades = b .trades; prices = b .prices; positions = b .positions; auction = b .auction; awards = x; marks = b .marks; ledger = b .ledger }
-
-abbrev pub withMark : Book → ℕ → Book
-withMark b n =
-    record { register = b .register; day = b .day; past = b .past; trades = b .trades; prices = b .prices; positions = b .positions; auction = b .auction; awards = b .awards; marks = b .marks ++ n ∷ []; ledger = b .ledger }
-
 -- the pieces of a quantity of a short, dealt out by the rules over this book's open quantities
 unfoldable pub dealt : Book → Manner → ℕ → ℕ → List Piece
 dealt b manner n quantity = dealTo manner n (takers (b .day) (positionOf b n .security) (b .positions)) quantity
 
 -- "A discharge (delivery, confirm, cash) deals its quantity .. out by the rules above over this book's open quantities, which fall by each piece on both sides, and books its charges"
 unfoldable pub discharged : Book → List Piece → List Charge → Book
-discharged b xs cs =
-    record { register = b .register; day = b .day; past = b .past; trades = b .trades; prices = b .prices; positions = lowering xs (b .positions); auction = b .auction; awards = b .awards; marks = b .marks; ledger = posted (b .ledger) cs }
+discharged b xs cs = withLedger (withPositions b (lowering xs (b .positions))) (posted (b .ledger) cs)
 
 -- the awards that end the auction: out of the short's open quantity
 unfoldable pub auctionAwards : Book → List Award
@@ -100,11 +76,11 @@ amount b event.Close = 0
 -- "A trade, offer or price is added. An attempt sets its mark and starts an auction, an award ends it in awards."; "a confirmed award is marked. A close does all under Close."
 unfoldable pub done : Book → Event → Book
 done b (event.Trade t) = withTrades b (b .trades ++ t ∷ [])
-done b (event.Price p) = withPrices b (set (b .prices) (p .security - 1) (p .price))
+done b (event.Price p) = withPrices b (set (b .prices) (p .security - 1) (record { price = p .price }))
 done b (event.Delivery d) = discharged b (handsOut b (event.Delivery d)) (charges b (event.Delivery d))
 done b (event.Attempt a) =
     let security = positionOf b (a .position) .security in
-    withAuction (withMark b (a .position))
+    withAuction (withMarks b (b .marks ++ a .position ∷ []))
     (record { position = a .position; ceiling = ceiling (classOf b security) (latestOf b security); offers = [] })
 done b (event.Offer o) =
     withAuction b
@@ -115,20 +91,24 @@ done b (event.Confirm c) =
     (number (confirmedAward (c .award)) 1 (b .awards))
 done b (event.Cash c) = discharged b (handsOut b (event.Cash c)) (charges b (event.Cash c))
 done b event.Close =
-    record {
-      register = b .register;
-      day = suc (b .day);
-      past = b .past + length (b .trades);
-      trades = [];
-      prices = b .prices;
-      positions = b .positions ++ netted (b .day) (b .trades) (keys (b .register .count));
-      auction = b .auction;
-      awards = [];
-      marks = [];
-      ledger = posted (b .ledger) (charges b event.Close);
-    }
+    let fined = withLedger b (posted (b .ledger) (charges b event.Close)) in
+    let made = netted (b .day) (b .trades) (keys (b .opening .register .count)) in
+    let netted' = withTrades (withPast (withPositions fined (b .positions ++ made)) (b .past + length (b .trades))) [] in
+    withDay (withMarks (withAwards netted' []) []) (suc (b .day))
 
--- "A discharge (delivery, confirm, cash)": the short that an event discharges; 0 where it is none
+-- "A discharge (delivery, confirm, cash)": the events whose calls have a sheet
+abbrev pub isDischarge : Event → Bool
+isDischarge (event.Trade t) = false
+isDischarge (event.Price p) = false
+isDischarge (event.Delivery d) = true
+isDischarge (event.Attempt a) = false
+isDischarge (event.Offer o) = false
+isDischarge (event.Award a) = false
+isDischarge (event.Confirm c) = true
+isDischarge (event.Cash c) = true
+isDischarge event.Close = false
+
+-- the short that a discharge discharges; 0 for an event that is none
 unfoldable pub shortOf : Book → Event → ℕ
 shortOf b (event.Trade t) = 0
 shortOf b (event.Price p) = 0

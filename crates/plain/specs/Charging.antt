@@ -13,7 +13,7 @@ use Rattle.plain.specs.declared.Position.{Position}
 use Rattle.plain.specs.declared.Piece.{Piece}
 use Rattle.plain.specs.declared.Award.{Award}
 use Rattle.plain.specs.declared.Ledger.{Ledger}
-use Rattle.plain.specs.Book.{Book, positionOf, classOf, latestOf}
+use Rattle.plain.specs.Book.{Book, noPosition, nth, positionOf, classOf, latestOf}
 use Rattle.plain.specs.Dealing.{due}
 
 pub record Charge : Type 0 where
@@ -56,29 +56,36 @@ buyInCharges b a =
     charge (short .member) (buyInCharge (a .quantity) (a .price) (short .reference)) ∷ []
 
 -- "A piece costs its quantity times the highest of the short's reference price, that piece's long's reference price, and the latest price doubled"
-unfoldable pub priced : Book → Piece → Piece
-priced b x =
-    let short = positionOf b (x .short) in
-    let long = positionOf b (x .long) in
+unfoldable pub pricedBy : ℕ → ℕ → List Position → Piece → Piece
+pricedBy class latest ps x =
     record {
       short = x .short;
       long = x .long;
       quantity = x .quantity;
       manner = x .manner;
       cents =
-          x .quantity * cashPrice (classOf b (short .security)) (short .reference) (long .reference) (latestOf b (short .security));
+          x .quantity * cashPrice class (nth noPosition ps (x .short) .reference) (nth noPosition ps (x .long) .reference) latest;
     }
 
+unfoldable pub priced : Book → Piece → Piece
+priced b x =
+    let security = positionOf b (x .short) .security in
+    pricedBy (classOf b security) (latestOf b security) (b .positions) x
+
 -- "The short's member pays each long's member. The fee to account 0 is open times latest price over 40,000"
-unfoldable pub payment : Book → Piece → Charge
-payment b x =
-    record { payer = positionOf b (x .short) .member; payee = positionOf b (x .long) .member; cents = x .cents }
+unfoldable pub payment : List Position → Piece → Charge
+payment ps x =
+    record { payer = nth noPosition ps (x .short) .member; payee = nth noPosition ps (x .long) .member; cents = x .cents }
+
+-- the fee for a short, by what is open of it before the settlement
+abbrev pub feeOf : Position → ℕ → Charge
+feeOf short latest = record { payer = short .member; payee = 0; cents = cashFee (short .unsettled * latest) }
+
+unfoldable pub cashChargesBy : ℕ → List Position → ℕ → List Piece → List Charge
+cashChargesBy latest ps n xs = map (payment ps) xs ++ feeOf (nth noPosition ps n) latest ∷ []
 
 unfoldable pub cashCharges : Book → ℕ → List Piece → List Charge
-cashCharges b n xs =
-    let short = positionOf b n in
-    map (payment b) xs
-    ++ record { payer = short .member; payee = 0; cents = cashFee (short .unsettled * latestOf b (short .security)) } ∷ []
+cashCharges b n xs = cashChargesBy (latestOf b (positionOf b n .security)) (b .positions) n xs
 
 -- "each unconfirmed award, in order, costs its offerer value over 2,500 ..; value is quantity (open, for shorts) times latest price, and no price yet means no charge"
 unfoldable pub awardFines : Book → Award → List Charge

@@ -15,6 +15,36 @@ mannerNumber Delivered = 1
 mannerNumber BoughtIn = 2
 mannerNumber Cash = 3
 
+-- the manners in which a position is discharged
+abbrev pub manners : List Manner
+manners = Delivered ∷ BoughtIn ∷ Cash ∷ []
+
+-- the figure of a position that a manner raises
+abbrev pub figure : Manner → Position → ℕ
+figure Delivered p = p .delivered
+figure BoughtIn p = p .bought
+figure Cash p = p .cash
+
+-- a position with other figures: what is discharged of it in each manner, and what is open
+abbrev pub withFigures : Position → (Manner → ℕ) → ℕ → Position
+withFigures p discharged left =
+    record {
+      member = p .member;
+      security = p .security;
+      short = p .short;
+      settlement = p .settlement;
+      reference = p .reference;
+      netted = p .netted;
+      delivered = discharged Delivered;
+      bought = discharged BoughtIn;
+      cash = discharged Cash;
+      unsettled = left;
+    }
+
+-- a position as it was made: all of it is open
+unfoldable pub fresh : Position → Position
+fresh p = withFigures p (λ m. 0) (p .netted)
+
 -- "Let r be today minus S; a position with r at least 0 is due."
 unfoldable pub due : ℕ → Position → Bool
 due day p = leb (p .settlement .0) day
@@ -64,19 +94,7 @@ takenBy manner n xs = sum (λ x. only (eqb (mannerNumber (x .manner)) (mannerNum
 
 -- "open quantities, which fall by each piece on both sides"
 unfoldable pub lowered : List Piece → ℕ → Position → Position
-lowered xs n p =
-    record {
-      member = p .member;
-      security = p .security;
-      short = p .short;
-      settlement = p .settlement;
-      reference = p .reference;
-      netted = p .netted;
-      delivered = p .delivered + takenBy Delivered n xs;
-      bought = p .bought + takenBy BoughtIn n xs;
-      cash = p .cash + takenBy Cash n xs;
-      unsettled = p .unsettled - taken n xs;
-    }
+lowered xs n p = withFigures p (λ m. figure m p + takenBy m n xs) (p .unsettled - taken n xs)
 
 unfoldable pub lowering : List Piece → List Position → List Position
 lowering xs ps = number (lowered xs) 1 ps

@@ -1,19 +1,21 @@
 -- Document 01, 'The plain book': calls one after the other. "A refused call changes nothing."
 use Prim.Native.Nat.{ℕ, suc, _+_}
-use mathlib.Core.List.{List, [], _∷_, _++_}
+use mathlib.Core.List.{List, [], _∷_, _++_, map}
 use lib.ListN.{getD}
 use lib.IntN.{ℤ, subℕ}
+use Rattle.laws.specs.Limits.{PLACES}
 use Rattle.laws.specs.Refusals.{accepted}
 use Rattle.events.specs.declared.Trade.{Trade}
 use Rattle.events.specs.declared.Event.{Event}
 use Rattle.events.specs.declared.Event.the-variants as event
+use Rattle.plain.specs.declared.Opening.{Opening}
 use Rattle.plain.specs.declared.Position.{Position}
 use Rattle.plain.specs.declared.Piece.{Piece}
-use Rattle.plain.specs.Book.{Book, new}
-use Rattle.plain.specs.Netting.{Key, keys, units, highest, made, net, netted}
-use Rattle.plain.specs.Dealing.{due, longOf, longsOn, takers, share, dealTo, names, taken, takenBy, lowered, lowering}
+use Rattle.plain.specs.Book.{Book, firstDay, new}
+use Rattle.plain.specs.Netting.{Key, keys, units, highest, made, netOf, net, netted}
+use Rattle.plain.specs.Dealing.{due, longOf, longsOn, takers, share, dealTo, names, taken, takenBy, lowered, lowering, fresh}
 use Rattle.plain.specs.Auction.{failing, insert, byPrice, awarded, unconfirmed, confirmedAward}
-use Rattle.plain.specs.Charging.{Charge, credited, debited, posted, charge, buyInCharges, priced, payment, cashCharges, awardFines, lateFines, closeCharges}
+use Rattle.plain.specs.Charging.{Charge, credited, debited, posted, charge, buyInCharges, pricedBy, priced, payment, cashChargesBy, cashCharges, awardFines, lateFines, closeCharges}
 use Rattle.plain.specs.Calls.{Call, call, dealt, discharged, auctionAwards, handsOut, charges, amount, done}
 use Rattle.plain.specs.Refusals.{stepToday, free, reasons, refusal}
 
@@ -32,6 +34,21 @@ quantity b c = let given = amount b (eventOf c) in accepted (refusal b c) given 
 
 unfoldable pub charged : Book → Call → List Charge
 charged b c = let given = charges b (eventOf c) in accepted (refusal b c) given []
+
+-- what the plain book gives the calls one after the other: the refusal number, the quantity
+unfoldable pub along : {A : Type 0} → (Book → Call → A) → Book → List Call → List A
+along f b [] = []
+along f b (c ∷ cs) = f b c ∷ along f (next b c) cs
+
+abbrev pub refusals : Book → List Call → List ℕ
+refusals = along refusal
+
+abbrev pub quantities : Book → List Call → List ℕ
+quantities = along quantity
+
+-- the calls that events make, each with a sheet of 1,024 places
+abbrev pub callsOf : List Event → List Call
+callsOf es = map (λ e. call e PLACES) es
 
 -- the same over a list of calls: the book after it, all pieces handed out, all charges, and the events that were accepted
 unfoldable pub run : Book → List Call → Book
@@ -65,11 +82,15 @@ formed ks day trades (event.Confirm c ∷ es) = formed ks day trades es
 formed ks day trades (event.Cash c ∷ es) = formed ks day trades es
 formed ks day trades (event.Close ∷ es) = netted day trades ks ++ formed ks (suc day) [] es
 
+-- those that they make of a new book
+abbrev pub formedBy : Opening → List Event → List Position
+formedBy opening es = formed (keys (opening .register .count)) (firstDay opening) [] es
+
 -- "a credit is positive": the balance of an account
 unfoldable pub balance : Book → ℕ → ℤ
 balance b k = subℕ (getD (b .ledger .credits) k 0) (getD (b .ledger .debits) k 0)
 
 -- Unfolding this unfolds the whole book, for worked examples.
 unfoldable pub computing : Unit {0}
-unfolding new keys units highest made net netted due longOf longsOn takers share dealTo names taken takenBy lowered lowering failing insert byPrice awarded unconfirmed confirmedAward credited debited posted charge buyInCharges priced payment cashCharges awardFines lateFines closeCharges dealt discharged auctionAwards handsOut charges amount done stepToday free reasons refusal next pieces quantity charged run handed allCharges acceptedEvents formed balance
+unfolding along new keys units highest made netOf net netted due longOf longsOn takers share dealTo names taken takenBy lowered lowering fresh failing insert byPrice awarded unconfirmed confirmedAward credited debited posted charge buyInCharges pricedBy priced payment cashChargesBy cashCharges awardFines lateFines closeCharges dealt discharged auctionAwards handsOut charges amount done stepToday free reasons refusal next pieces quantity charged run handed allCharges acceptedEvents formed balance
 computing = tt

@@ -1,4 +1,5 @@
 pub mod Book
+pub mod Changing
 pub mod Netting
 pub mod Dealing
 pub mod Auction
@@ -6,5 +7,8 @@ pub mod Charging
 pub mod Calls
 pub mod Refusals
 pub mod Histories
+pub mod Invariants
+pub mod Sound
+pub mod Claim
 pub mod Worked
 pub mod Table

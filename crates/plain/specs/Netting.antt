@@ -3,6 +3,7 @@ use Prim.Native.Nat.{ℕ, _+_, _-_, max}
 use mathlib.Core.List.{List, [], _∷_}
 use mathlib.Core.Bool.{Bool, true, false, _&&_}
 use lib.Dec.{ltb, eqb}
+use Rattle.laws.specs.Limits.{MEMBERS}
 use Rattle.laws.specs.Lists.{only, keep, sum, each, range}
 use Rattle.events.specs.declared.Trade.{Trade}
 use Rattle.plain.specs.declared.Position.{Position}
@@ -14,7 +15,7 @@ pub record Key : Type 0 where
 
 -- "Members are 1 to 63", and the securities of a register by their numbers, "by member, then security"
 unfoldable pub keys : ℕ → List Key
-keys count = each (λ m. each (λ s. record { member = m; security = s } ∷ []) (range 1 count)) (range 1 63)
+keys count = each (λ m. each (λ s. record { member = m; security = s } ∷ []) (range 1 count)) (range 1 MEMBERS)
 
 -- the trades in which the key's member buys or sells its security
 abbrev pub buys : Key → Trade → Bool
@@ -49,12 +50,14 @@ made day k short quantity reference =
 
 -- "bought minus sold. Zero makes no position; negative makes a short, positive a long.";
 -- "Its reference price is the highest price among that member's sales (short) or purchases (long) in that group."
+unfoldable pub netOf : ℕ → Key → ℕ → ℕ → ℕ → ℕ → List Position
+netOf day k bought highestBought sold highestSold =
+    keep (ltb bought sold) (made day k true (sold - bought) highestSold)
+    (keep (ltb sold bought) (made day k false (bought - sold) highestBought) [])
+
 unfoldable pub net : ℕ → List Trade → Key → List Position
 net day trades k =
-    let bought = units (buys k) trades in
-    let sold = units (sells k) trades in
-    keep (ltb bought sold) (made day k true (sold - bought) (highest (sells k) trades))
-    (keep (ltb sold bought) (made day k false (bought - sold) (highest (buys k) trades)) [])
+    netOf day k (units (buys k) trades) (highest (buys k) trades) (units (sells k) trades) (highest (sells k) trades)
 
 -- "the day's trades are netted for each member and security"
 unfoldable pub netted : ℕ → List Trade → List Key → List Position

@@ -1,112 +1,253 @@
--- Document 01, 'Why a call is turned down', 8 to 26: the reasons of each call, in the order of the paper's list.
+-- Document 01, 'Why a call is turned down', 8 to 26: each reason over the values that it looks at, the reasons of each call in the order of the
+-- paper's list, and what they say on the plain book. A reason is named after what turns the call down.
 use Prim.Native.Nat.{ℕ, _+_, _-_}
-use mathlib.Core.List.{List, [], _∷_}
-use mathlib.Core.Bool.{Bool, not, _&&_, _||_}
+use mathlib.Core.List.{List, [], _∷_, _++_}
+use mathlib.Core.Bool.{Bool, not, _&&_}
 use lib.ListN.{length}
 use lib.Dec.{ltb, leb, eqb}
 use Rattle.laws.specs.Asked.{within}
+use Rattle.laws.specs.Limits.{MEMBERS, MOST-QUANTITY, MOST-PRICE, TRADES, PLACES, ATTEMPTS, OFFERS, LAST-DAY}
 use Rattle.laws.specs.Lists.{some}
 use Rattle.laws.specs.Refusals.{Reason, _⇒_, first}
 use Rattle.rules.specs.Windows.{stepOn, stepKind}
 use Rattle.rules.specs.declared.Step.{Step}
 use Rattle.rules.specs.declared.Step.the-variants as step
+use Rattle.events.specs.declared.Trade.{Trade}
+use Rattle.events.specs.declared.Price.{Price}
+use Rattle.events.specs.declared.Delivery.{Delivery}
+use Rattle.events.specs.declared.Offer.{Offer}
 use Rattle.events.specs.declared.Event.the-variants as event
 use Rattle.plain.specs.declared.Position.{Position}
-use Rattle.plain.specs.Book.{Book, there, positionOf, awardOf, classOf, latestOf}
+use Rattle.plain.specs.declared.Award.{Award}
+use Rattle.plain.specs.Book.{Book, positionOf, awardOf, classOf, latestOf}
 use Rattle.plain.specs.Dealing.{due}
 use Rattle.plain.specs.Auction.{failing, unconfirmed}
 use Rattle.plain.specs.Calls.{Call, call}
 
--- 8. "The sheet has under 1,024 places"
+-- The reasons
+
+-- 8. "The sheet has under 1,024 places (delivery, confirm, cash)."
 abbrev pub smallSheet : ℕ → Reason
-smallSheet sheet = ltb sheet 1024 ⇒ 8
+smallSheet sheet = ltb sheet PLACES ⇒ 8
 
--- 9. "A member is not 1 to 63."
+-- 9. "A member is not 1 to 63." Of a trade both its members, of an offer its offerer.
 abbrev pub isMember : ℕ → Bool
-isMember m = within 1 63 m
+isMember member = within 1 MEMBERS member
 
--- 10. "The security is not registered."
-abbrev pub isSecurity : Book → ℕ → Bool
-isSecurity b s = within 1 (b .register .count) s
+abbrev pub noMember : ℕ → Reason
+noMember member = not (isMember member) ⇒ 9
 
--- 12. "The quantity is 0, or in a trade or offer above 1,000,000."
+-- 10. "The security is not registered." Of a trade and a price.
+abbrev pub notRegistered : ℕ → ℕ → Reason
+notRegistered securities security = not (within 1 securities security) ⇒ 10
+
+-- 11. "The position, or today's award, is not there." Of a delivery, an attempt, an offer, an award and a cash settlement the position, of a
+-- confirmation the award: number n of those held.
+abbrev pub notThere : ℕ → ℕ → Reason
+notThere held n = not (within 1 held n) ⇒ 11
+
+-- 12. "The quantity is 0, or in a trade or offer above 1,000,000." Besides these two of a delivery.
 abbrev pub isQuantity : ℕ → Bool
-isQuantity q = within 1 1000000 q
+isQuantity quantity = within 1 MOST-QUANTITY quantity
 
--- 13. "The price is 0 or above 10,000,000."
+abbrev pub wrongQuantity : ℕ → Reason
+wrongQuantity quantity = not (isQuantity quantity) ⇒ 12
+
+abbrev pub noQuantity : ℕ → Reason
+noQuantity quantity = eqb quantity 0 ⇒ 12
+
+-- 13. "The price is 0 or above 10,000,000." Of a trade, a price and an offer.
 abbrev pub isPrice : ℕ → Bool
-isPrice p = within 1 10000000 p
+isPrice price = within 1 MOST-PRICE price
+
+abbrev pub wrongPrice : ℕ → Reason
+wrongPrice price = not (isPrice price) ⇒ 13
+
+-- 14. "Seller is buyer." Of a trade.
+abbrev pub sellerIsBuyer : ℕ → ℕ → Reason
+sellerIsBuyer seller buyer = eqb seller buyer ⇒ 14
+
+-- 15. "512 trades are held." Of a trade.
+abbrev pub tradesFull : ℕ → Reason
+tradesFull held = leb TRADES held ⇒ 15
+
+-- 16. "The position is long (delivery, attempt, cash)."
+abbrev pub isLong : Position → Reason
+isLong p = not (p .short) ⇒ 16
+
+-- 17. "Today is outside the step's window." Of an attempt and a cash settlement, by the step that today allows; and of a delivery, by its day.
+abbrev pub outsideWindow : Step → Step → Reason
+outsideWindow asked today = not (eqb (stepKind today) (stepKind asked)) ⇒ 17
+
+abbrev pub notDue : ℕ → Position → Reason
+notDue day p = not (due day p) ⇒ 17
+
+-- 18. "An auction runs (attempt, close), runs on this short (delivery), or doesn't run on this position (offer, award)." Of the position that
+-- it is on, 0 where none runs.
+abbrev pub runsOn : ℕ → ℕ → Bool
+runsOn auction n = ltb 0 auction && eqb auction n
+
+abbrev pub auctionRuns : ℕ → Reason
+auctionRuns auction = ltb 0 auction ⇒ 18
+
+abbrev pub auctionOnThis : ℕ → ℕ → Reason
+auctionOnThis auction n = runsOn auction n ⇒ 18
+
+abbrev pub noAuctionOnThis : ℕ → ℕ → Reason
+noAuctionOnThis auction n = not (runsOn auction n) ⇒ 18
+
+-- 19. "The security never had a price (attempt, cash)." Its latest price is 0 then.
+abbrev pub neverPriced : ℕ → Reason
+neverPriced latest = eqb latest 0 ⇒ 19
+
+-- 20. "Sixteen attempts were opened today, or one on this short." Of an attempt.
+abbrev pub attemptsFull : ℕ → Reason
+attemptsFull attempts = leb ATTEMPTS attempts ⇒ 20
+
+abbrev pub attemptedToday : Bool → Reason
+attemptedToday marked = marked ⇒ 20
+
+-- 21. "The offerer is failing in the security." Of an offer.
+abbrev pub offererFails : Bool → Reason
+offererFails fails = fails ⇒ 21
+
+-- 22. "The offer exceeds the ceiling." Of an offer.
+abbrev pub aboveCeiling : ℕ → ℕ → Reason
+aboveCeiling ceiling price = ltb ceiling price ⇒ 22
+
+-- 23. "Sixteen offers are in." Of an offer.
+abbrev pub offersFull : ℕ → Reason
+offersFull offers = leb OFFERS offers ⇒ 23
+
+-- 24. "Delivery exceeds free, or open is 0 (attempt, cash)."
+abbrev pub aboveFree : ℕ → ℕ → Reason
+aboveFree free quantity = ltb free quantity ⇒ 24
+
+abbrev pub nothingOpen : Position → Reason
+nothingOpen p = eqb (p .unsettled) 0 ⇒ 24
+
+-- 25. "The award is confirmed already." Of a confirmation.
+abbrev pub confirmedAlready : Award → Reason
+confirmedAlready award = award .confirmed ⇒ 25
+
+-- 26. "It is day 9,999 (close)."
+abbrev pub lastDay : ℕ → Reason
+lastDay day = leb LAST-DAY day ⇒ 26
+
+-- The lists: "Checks that don't concern the call are skipped."
+
+-- of the number of securities registered, the number of trades held, and the trade
+unfoldable pub tradeReasons : ℕ → ℕ → Trade → List Reason
+tradeReasons securities held t =
+    noMember (t .seller)
+    ∷ noMember (t .buyer)
+    ∷ notRegistered securities (t .security)
+    ∷ wrongQuantity (t .quantity)
+    ∷ wrongPrice (t .price)
+    ∷ sellerIsBuyer (t .seller) (t .buyer)
+    ∷ tradesFull held
+    ∷ []
+
+-- of the number of securities registered, and the price
+unfoldable pub priceReasons : ℕ → Price → List Reason
+priceReasons securities p = notRegistered securities (p .security) ∷ wrongPrice (p .price) ∷ []
+
+-- the first reasons of a discharge, before its position or award is looked at: of the sheet's length, how many there are, and the number named
+unfoldable pub lookupReasons : ℕ → ℕ → ℕ → List Reason
+lookupReasons sheet held n = smallSheet sheet ∷ notThere held n ∷ []
+
+-- a delivery's after them: of its position, the day, the auction's position, what is free, and the delivery
+unfoldable pub deliveryReasons : Position → ℕ → ℕ → ℕ → Delivery → List Reason
+deliveryReasons p day auction free d =
+    noQuantity (d .quantity)
+    ∷ isLong p
+    ∷ notDue day p
+    ∷ auctionOnThis auction (d .position)
+    ∷ aboveFree free (d .quantity)
+    ∷ []
+
+-- a confirmation's after them: of its award
+unfoldable pub confirmReasons : Award → List Reason
+confirmReasons award = confirmedAlready award ∷ []
+
+-- a cash settlement's after them: of its position, the step that today allows on it, and the latest price of its security
+unfoldable pub cashReasons : Position → Step → ℕ → List Reason
+cashReasons p today latest =
+    isLong p
+    ∷ outsideWindow step.Cash today
+    ∷ neverPriced latest
+    ∷ nothingOpen p
+    ∷ []
+
+-- an attempt's after 11: of its position, the step that today allows on it, the auction's position, the latest price of its security, how many
+-- attempts were opened today, and whether one was on this position
+unfoldable pub attemptReasons : Position → Step → ℕ → ℕ → ℕ → Bool → List Reason
+attemptReasons p today auction latest attempts marked =
+    isLong p
+    ∷ outsideWindow step.Attempt today
+    ∷ auctionRuns auction
+    ∷ neverPriced latest
+    ∷ attemptsFull attempts
+    ∷ attemptedToday marked
+    ∷ nothingOpen p
+    ∷ []
+
+-- an offer's that its fields decide, with the number of positions and the auction's position
+unfoldable pub offerReasons : ℕ → ℕ → Offer → List Reason
+offerReasons held auction o =
+    noMember (o .offerer)
+    ∷ notThere held (o .position)
+    ∷ wrongQuantity (o .quantity)
+    ∷ wrongPrice (o .price)
+    ∷ noAuctionOnThis auction (o .position)
+    ∷ []
+
+-- an offer's after them, which the auction decides: of whether its offerer is failing, the ceiling, how many offers are in, and the price
+unfoldable pub auctionReasons : Bool → ℕ → ℕ → ℕ → List Reason
+auctionReasons fails ceiling offers price = offererFails fails ∷ aboveCeiling ceiling price ∷ offersFull offers ∷ []
+
+-- of the number of positions, the auction's position, and the position named
+unfoldable pub awardReasons : ℕ → ℕ → ℕ → List Reason
+awardReasons held auction n = notThere held n ∷ noAuctionOnThis auction n ∷ []
+
+-- of the auction's position, and the day
+unfoldable pub closeReasons : ℕ → ℕ → List Reason
+closeReasons auction day = auctionRuns auction ∷ lastDay day ∷ []
+
+-- On the plain book
 
 -- the step that today allows on a position besides delivery: r is today minus S, and at r 0 no class allows one
 unfoldable pub stepToday : Book → Position → Step
 stepToday b p = stepOn (classOf b (p .security)) (b .day - p .settlement .0)
 
--- 17. "Today is outside the step's window."
-abbrev pub inWindow : Step → Book → Position → Bool
-inWindow s b p = eqb (stepKind (stepToday b p)) (stepKind s)
-
 -- "Free is open minus today's unconfirmed awards on that position"
 unfoldable pub free : Book → ℕ → ℕ
 free b n = positionOf b n .unsettled - unconfirmed n (b .awards)
 
-abbrev pub auctionRuns : Book → Bool
-auctionRuns b = ltb 0 (b .auction .position)
-
-abbrev pub auctionOn : Book → ℕ → Bool
-auctionOn b n = auctionRuns b && eqb (b .auction .position) n
-
+-- Unfolding this unfolds the lists too.
 unfoldable pub reasons : Book → Call → List Reason
-reasons b (call (event.Trade t) sheet) =
-    (not (isMember (t .seller) && isMember (t .buyer)) ⇒ 9)
-    ∷ (not (isSecurity b (t .security)) ⇒ 10)
-    ∷ (not (isQuantity (t .quantity)) ⇒ 12)
-    ∷ (not (isPrice (t .price)) ⇒ 13)
-    ∷ (eqb (t .seller) (t .buyer) ⇒ 14)
-    ∷ (leb 512 (b .past + length (b .trades)) ⇒ 15)
-    ∷ []
-reasons b (call (event.Price p) sheet) =
-    (not (isSecurity b (p .security)) ⇒ 10) ∷ (not (isPrice (p .price)) ⇒ 13) ∷ []
+unfolding tradeReasons priceReasons lookupReasons deliveryReasons confirmReasons cashReasons attemptReasons offerReasons auctionReasons awardReasons closeReasons
+reasons b (call (event.Trade t) sheet) = tradeReasons (b .opening .register .count) (b .past + length (b .trades)) t
+reasons b (call (event.Price p) sheet) = priceReasons (b .opening .register .count) p
 reasons b (call (event.Delivery d) sheet) =
-    smallSheet sheet
-    ∷ (not (there (b .positions) (d .position)) ⇒ 11)
-    ∷ (eqb (d .quantity) 0 ⇒ 12)
-    ∷ (not (positionOf b (d .position) .short) ⇒ 16)
-    ∷ (not (due (b .day) (positionOf b (d .position))) ⇒ 17)
-    ∷ (auctionOn b (d .position) ⇒ 18)
-    ∷ (ltb (free b (d .position)) (d .quantity) ⇒ 24)
-    ∷ []
+    lookupReasons sheet (length (b .positions)) (d .position)
+    ++ deliveryReasons (positionOf b (d .position)) (b .day) (b .auction .position) (free b (d .position)) d
 reasons b (call (event.Attempt a) sheet) =
-    (not (there (b .positions) (a .position)) ⇒ 11)
-    ∷ (not (positionOf b (a .position) .short) ⇒ 16)
-    ∷ (not (inWindow step.Attempt b (positionOf b (a .position))) ⇒ 17)
-    ∷ (auctionRuns b ⇒ 18)
-    ∷ (eqb (latestOf b (positionOf b (a .position) .security)) 0 ⇒ 19)
-    ∷ ((leb 16 (length (b .marks)) || some (λ n. eqb n (a .position)) (b .marks)) ⇒ 20)
-    ∷ (eqb (positionOf b (a .position) .unsettled) 0 ⇒ 24)
-    ∷ []
+    let p = positionOf b (a .position) in
+    notThere (length (b .positions)) (a .position)
+    ∷ attemptReasons p (stepToday b p) (b .auction .position) (latestOf b (p .security)) (length (b .marks)) (some (λ n. eqb n (a .position)) (b .marks))
 reasons b (call (event.Offer o) sheet) =
-    (not (isMember (o .offerer)) ⇒ 9)
-    ∷ (not (there (b .positions) (o .position)) ⇒ 11)
-    ∷ (not (isQuantity (o .quantity)) ⇒ 12)
-    ∷ (not (isPrice (o .price)) ⇒ 13)
-    ∷ (not (auctionOn b (o .position)) ⇒ 18)
-    ∷ (failing (b .day) (b .positions) (positionOf b (o .position) .security) (o .offerer) ⇒ 21)
-    ∷ (ltb (b .auction .ceiling) (o .price) ⇒ 22)
-    ∷ (leb 16 (length (b .auction .offers)) ⇒ 23)
-    ∷ []
-reasons b (call (event.Award a) sheet) =
-    (not (there (b .positions) (a .position)) ⇒ 11) ∷ (not (auctionOn b (a .position)) ⇒ 18) ∷ []
+    let fails = failing (b .day) (b .positions) (positionOf b (o .position) .security) (o .offerer) in
+    offerReasons (length (b .positions)) (b .auction .position) o
+    ++ auctionReasons fails (b .auction .ceiling) (length (b .auction .offers)) (o .price)
+reasons b (call (event.Award a) sheet) = awardReasons (length (b .positions)) (b .auction .position) (a .position)
 reasons b (call (event.Confirm c) sheet) =
-    smallSheet sheet ∷ (not (there (b .awards) (c .award)) ⇒ 11) ∷ (awardOf b (c .award) .confirmed ⇒ 25) ∷ []
+    lookupReasons sheet (length (b .awards)) (c .award) ++ confirmReasons (awardOf b (c .award))
 reasons b (call (event.Cash c) sheet) =
-    smallSheet sheet
-    ∷ (not (there (b .positions) (c .position)) ⇒ 11)
-    ∷ (not (positionOf b (c .position) .short) ⇒ 16)
-    ∷ (not (inWindow step.Cash b (positionOf b (c .position))) ⇒ 17)
-    ∷ (eqb (latestOf b (positionOf b (c .position) .security)) 0 ⇒ 19)
-    ∷ (eqb (positionOf b (c .position) .unsettled) 0 ⇒ 24)
-    ∷ []
-reasons b (call event.Close sheet) = (auctionRuns b ⇒ 18) ∷ (leb 9999 (b .day) ⇒ 26) ∷ []
+    let p = positionOf b (c .position) in
+    lookupReasons sheet (length (b .positions)) (c .position)
+    ++ cashReasons p (stepToday b p) (latestOf b (p .security))
+reasons b (call event.Close sheet) = closeReasons (b .auction .position) (b .day)
 
 -- the number of the first reason that applies, else 0
 unfoldable pub refusal : Book → Call → ℕ

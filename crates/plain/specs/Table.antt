@@ -1,25 +1,29 @@
 -- The starred lines of document 01, 'Edges and a squeeze', and the player's example: one table of values by the definitions and values expected.
 -- Every row holds, by computation.
-use Prim.Native.Nat.{ℕ}
+use Prim.Native.Nat.{ℕ, _+_}
+use native.Mathlib.Omega.{arith}
 use mathlib.Core.Path.{_≡_, refl}
 use mathlib.Core.List.{List, [], _∷_, _++_, map}
 use mathlib.Core.Bool.{true, false}
 use lib.ListN.{replicate}
 use lib.IntN.{pos, negℤ}
+use Rattle.laws.specs.Limits.{ACCOUNTS}
 use Rattle.laws.specs.Lists.{range}
 use Rattle.rules.specs.declared.Step.the-variants as step
 use Rattle.rules.specs.Windows.{shareStep, recurringStep, stepOn}
 use Rattle.rules.specs.Prices.{ceiling, raised, cashPrice}
+use Rattle.rules.specs.Charged.{fee-above}
 use Rattle.rules.specs.Charges.{roundedHalfUp, fee, cashFee, awardFine, lateFine, buyInCharge, inCents}
 use Rattle.register.specs.Isin.{isin}
-use Rattle.register.specs.Isin as check
+use Rattle.register.specs.Register.{registerRead}
+use Rattle.register.specs.Register as check
 use Rattle.plain.specs.declared.Position.{Position}
 use Rattle.plain.specs.declared.Piece.{Piece}
 use Rattle.plain.specs.declared.Manner.{Manner}
 use Rattle.plain.specs.declared.Manner.the-variants as manner
-use Rattle.plain.specs.Book.{Book, new}
-use Rattle.plain.specs.Histories.{run, handed, balance, computing}
-use Rattle.plain.specs.Worked.{refusals, quantities, oneShare, squeeze, example, twoDays}
+use Rattle.plain.specs.Book.{Book}
+use Rattle.plain.specs.Histories.{run, handed, refusals, quantities, balance, computing}
+use Rattle.plain.specs.Worked.{xx, oneShareBytes, oneShare, squeeze, example, twoDays}
 
 -- a row: a value by the definitions, and the value expected
 pub record Row : Type 1 where
@@ -43,15 +47,15 @@ piece short long quantity manner cents =
 abbrev figures : Position → List ℕ
 figures p = p .netted ∷ p .delivered ∷ p .bought ∷ p .cash ∷ p .unsettled ∷ []
 
--- the digits of an ISIN that ends in the given one: X is 88, 0 is 48
-abbrev xx : ℕ → List ℕ
-xx digit = 88 ∷ 88 ∷ replicate 9 48 ++ digit ∷ []
-
 abbrev settled : Book
-settled = run (new oneShare) squeeze
+settled = run oneShare squeeze
 
 abbrev delivered : Book
-delivered = run (new oneShare) example
+delivered = run oneShare example
+
+-- the fee on each value above 4,000,000,000, by how much more it is than the least of them
+abbrev feeAbove : ℕ → ℕ
+feeAbove more = cashFee (4000000001 + more)
 
 pub table : List Row
 table =
@@ -60,6 +64,7 @@ table =
     ∷ (cashFee 1000020000 is 25001)
     ∷ (cashFee 4000000001 is 100000)
     ∷ (cashFee 4000020000 is 100000)
+    ∷ (feeAbove is (λ more. 100000))
     -- "Buy-in fine on 250,001,249: 100,000; 250,001,250: 100,001."
     ∷ (awardFine 1 250001249 is 100000)
     ∷ (awardFine 1 250001250 is 100001)
@@ -77,26 +82,28 @@ table =
     -- "XX0000000002 passes, XX0000000003 doesn't."
     ∷ (isin (xx 50) is true)
     ∷ (isin (xx 51) is false)
+    -- the worked books open on a register that passes
+    ∷ (registerRead oneShareBytes .number is 0)
     -- "30 bought in at 1,190 against 1,200: charge -300."
     ∷ (inCents (buyInCharge 30 1190 1200) is negℤ (pos 300))
     -- "Squeeze, class 1": the refusal 17 of day 2, the quantities, the pieces, and "Accounts 0 to 4"
-    ∷ (refusals (new oneShare) squeeze is (replicate 4 0 ++ 17 ∷ replicate 16 0))
-    ∷ (quantities (new oneShare) squeeze is (100 ∷ 50 ∷ 0 ∷ 0 ∷ 0 ∷ 0 ∷ 30 ∷ replicate 6 0 ++ 40 ∷ 30 ∷ 70 ∷ 30 ∷ 0 ∷ 0 ∷ 0 ∷ 90 ∷ []))
-    ∷ (handed (new oneShare) squeeze
+    ∷ (refusals oneShare squeeze is (replicate 4 0 ++ 17 ∷ replicate 16 0))
+    ∷ (quantities oneShare squeeze is (100 ∷ 50 ∷ 0 ∷ 0 ∷ 0 ∷ 0 ∷ 30 ∷ replicate 6 0 ++ 40 ∷ 30 ∷ 70 ∷ 30 ∷ 0 ∷ 0 ∷ 0 ∷ 90 ∷ []))
+    ∷ (handed oneShare squeeze
     is (piece 1 2 30 manner.Delivered 0 ∷ piece 1 2 30 manner.BoughtIn 0 ∷ piece 1 2 40 manner.Cash 88000 ∷ piece 1 3 50 manner.Cash 110000 ∷ []))
     ∷ (map (balance settled) (range 0 5) is (pos 126595 ∷ negℤ (pos 224595) ∷ pos 88000 ∷ pos 110000 ∷ negℤ (pos 100000) ∷ []))
     -- the player's example: its lines `e`, `p` and `s`, and no account's line
-    ∷ (refusals (new oneShare) example is (0 ∷ 0 ∷ 0 ∷ 0 ∷ []))
-    ∷ (quantities (new oneShare) example is (100 ∷ 0 ∷ 0 ∷ 100 ∷ []))
-    ∷ (handed (new oneShare) example is (piece 1 2 100 manner.Delivered 0 ∷ []))
+    ∷ (refusals oneShare example is (0 ∷ 0 ∷ 0 ∷ 0 ∷ []))
+    ∷ (quantities oneShare example is (100 ∷ 0 ∷ 0 ∷ 100 ∷ []))
+    ∷ (handed oneShare example is (piece 1 2 100 manner.Delivered 0 ∷ []))
     ∷ (map figures (delivered .positions) is ((100 ∷ 100 ∷ 0 ∷ 0 ∷ 0 ∷ []) ∷ (100 ∷ 100 ∷ 0 ∷ 0 ∷ 0 ∷ []) ∷ []))
-    ∷ (map (balance delivered) (range 0 64) is replicate 64 (pos 0))
+    ∷ (map (balance delivered) (range 0 ACCOUNTS) is replicate ACCOUNTS (pos 0))
     -- "lowest S first, then lowest number", over two delivery days
-    ∷ (refusals (new oneShare) twoDays is replicate 7 0)
-    ∷ (handed (new oneShare) twoDays
+    ∷ (refusals oneShare twoDays is replicate 7 0)
+    ∷ (handed oneShare twoDays
     is (piece 3 2 50 manner.Delivered 0 ∷ piece 1 2 50 manner.Delivered 0 ∷ piece 1 4 50 manner.Delivered 0 ∷ []))
     ∷ []
 
 pub every-row : Holds table
-unfolding table shareStep recurringStep stepOn ceiling raised cashPrice roundedHalfUp fee cashFee awardFine lateFine buyInCharge inCents check.computing computing refusals quantities
-every-row = (refl, (refl, (refl, (refl, (refl, (refl, (refl, (refl, (refl, (refl, (refl, (refl, (refl, (refl, (refl, (refl, (refl, (refl, (refl, (refl, (refl, (refl, (refl, (refl, (refl, (refl, (refl, tt)))))))))))))))))))))))))))
+unfolding table shareStep recurringStep stepOn ceiling raised cashPrice roundedHalfUp fee cashFee awardFine lateFine buyInCharge inCents check.computing computing
+every-row = (refl, (refl, (refl, (refl, (λ i more. fee-above (4000000001 + more) (omega arith) i, (refl, (refl, (refl, (refl, (refl, (refl, (refl, (refl, (refl, (refl, (refl, (refl, (refl, (refl, (refl, (refl, (refl, (refl, (refl, (refl, (refl, (refl, (refl, (refl, tt)))))))))))))))))))))))))))))

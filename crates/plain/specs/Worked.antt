@@ -2,31 +2,24 @@
 use Prim.Native.Nat.{ℕ}
 use mathlib.Core.List.{List, [], _∷_, _++_}
 use lib.ListN.{replicate}
-use Rattle.register.specs.declared.Register.{Register}
 use Rattle.events.specs.declared.Event.{Event}
 use Rattle.events.specs.declared.Event.the-variants as event
-use Rattle.plain.specs.Book.{Book}
-use Rattle.plain.specs.Calls.{Call, call}
-use Rattle.plain.specs.Refusals.{refusal}
-use Rattle.plain.specs.Histories.{next, quantity}
+use Rattle.plain.specs.Book.{Book, openingRead, new}
+use Rattle.plain.specs.Calls.{Call}
+use Rattle.plain.specs.Histories.{callsOf}
 
--- each event as a call with a sheet of 1,024 places
-abbrev pub calls : List Event → List Call
-calls [] = []
-calls (e ∷ es) = call e 1024 ∷ calls es
+-- the bytes of an ISIN that begins XX000000000 and ends in the given digit: X is 88, 0 is 48
+abbrev pub xx : ℕ → List ℕ
+xx digit = 88 ∷ 88 ∷ replicate 9 48 ++ digit ∷ []
 
--- the refusal number, and the quantity, of each call
-unfoldable pub refusals : Book → List Call → List ℕ
-refusals b [] = []
-refusals b (c ∷ cs) = refusal b c ∷ refusals (next b c) cs
+-- "Register: class 1, XX0000000002": the bytes of the register, and the book that opens on them
+abbrev pub oneShareBytes : List ℕ
+oneShareBytes = 1 ∷ 0 ∷ 1 ∷ xx 50
 
-unfoldable pub quantities : Book → List Call → List ℕ
-quantities b [] = []
-quantities b (c ∷ cs) = quantity b c ∷ quantities (next b c) cs
+abbrev pub oneShare : Book
+oneShare = new (openingRead oneShareBytes)
 
--- one security of class 1, and events about it and its first short, position 1
-abbrev pub oneShare : Register
-oneShare = record { count = 1; classes = 1 ∷ replicate 31 0; isins = replicate 384 0 }
+-- events about its one security and its first short, position 1
 
 abbrev trade : ℕ → ℕ → ℕ → ℕ → Event
 trade seller buyer quantity price =
@@ -51,7 +44,7 @@ closes n = replicate n event.Close
 -- Day 8: attempt; offers 40 at 1,300 (member 4), 30 at 1,250 (member 5); award 70; award 1 confirmed. Day 11: cash 90"
 abbrev pub squeeze : List Call
 squeeze =
-    calls
+    callsOf
     (trade 1 2 100 1000
     ∷ trade 1 3 50 1200
     ∷ price 1100
@@ -71,14 +64,14 @@ squeeze =
 
 -- "member 1 sells to member 2 100 units of security 1 at 1,000; close; close; deliver 100 of position 1"
 abbrev pub example : List Call
-example = calls (trade 1 2 100 1000 ∷ event.Close ∷ event.Close ∷ delivery 100 ∷ [])
+example = callsOf (trade 1 2 100 1000 ∷ event.Close ∷ event.Close ∷ delivery 100 ∷ [])
 
 -- two delivery days: day 1, member 1 sells 100 to 2; day 2, member 3 sells 50 to 4; on day 4 all are due. The delivery of the later short goes
 -- to the earlier long first, so that the earlier short's reaches the later long ("pairing a short only with longs of its own S" is a habit of
 -- older books)
 abbrev pub twoDays : List Call
 twoDays =
-    calls
+    callsOf
     (trade 1 2 100 1000
     ∷ event.Close
     ∷ trade 3 4 50 1000

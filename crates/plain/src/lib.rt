@@ -1,5 +1,17 @@
 // The values that the plain book and the machine's book share. It has no function.
+use laws::ACCOUNTS;
 use laws::BusinessDay;
+use register::Register;
+
+// What a book is opened with.
+pub struct Opening {
+    pub register: Register,
+}
+
+// The latest price of a security, 0 where it never had one.
+pub struct Latest {
+    pub price: u32,
+}
 
 // A member's netted quantity of a security, short or long.
 pub struct Position {
@@ -47,8 +59,8 @@ pub struct Award {
 
 // The accounts 0 to 63 as the cents that each was credited and debited in all: its balance is the difference.
 pub struct Ledger {
-    pub credits: [u64; 64],
-    pub debits: [u64; 64],
+    pub credits: [u64; ACCOUNTS],
+    pub debits: [u64; ACCOUNTS],
 }
 
 // What a call answers: its quantity, or the number of its refusal.

@@ -1,7 +1,7 @@
 // The player: a register and a file of events from standard input, and what becomes of them on standard output.
 // What it prints is the definition `transcript`, block by block (`transcript/specs/Whole.antt`). Only the copying from standard input and
 // of pages to standard output is outside the proofs.
-ghost use Prim.Native.Nat.{ℕ};
+ghost use Prim.Native.Nat.{ℕ, _≤_};
 ghost use mathlib.Core.Path.{_≡_};
 ghost use mathlib.Core.List.{List};
 ghost use lib.ListN.{length};
@@ -19,10 +19,17 @@ fn blank_page() -> [u8; 131072]
     [0u8; 131072]
 }
 
+// The used bytes of a page.
+fn print_page(page: &[u8], used: usize)
+    requires { ⌜ used ≤ length (now page) ⌝ }
+{
+    io::write_all(STDOUT_FILENO, &page[..used]);
+}
+
 fn print_refusal(number: u8) {
     let mut page = blank_page();
     let used = report::refusal_line(&mut page, number);
-    io::write_all(STDOUT_FILENO, &page[..used]);
+    print_page(&page, used);
 }
 
 // Prints all events of a file, page by page, each on the lent tables. The core after them is answered.
@@ -54,8 +61,7 @@ fn print_events(
             sheet,
             i,
         );
-        let used = some.used;
-        io::write_all(STDOUT_FILENO, &page[..used]);
+        print_page(page, some.used);
         let after = some.core;
         played = after;
         i = some.next;
@@ -67,7 +73,7 @@ fn print_end(page: &mut [u8], core: Core, rows: &[u32; 10240])
     requires { ⌜ ((trades awards counts : List ℕ) × Held core (numbers (now rows) trades awards counts)) × (length (now page) ≡ 131072) ⌝ }
 {
     let used = transcript::end_lines(page, core, rows);
-    io::write_all(STDOUT_FILENO, &page[..used]);
+    print_page(page, used);
 }
 
 // The file is played on a new book, whose tables stand here.

@@ -13,7 +13,7 @@ use Rattle.laws.specs.Asked.{Said, passed, failed, ask}
 use Rattle.laws.specs.Lists.{only}
 use Rattle.laws.specs.Sums.{only-zero}
 use Rattle.plain.specs.Dealing.{due, longOf}
-use Rattle.plain.proofs.Invariants.{dueLong}
+use Rattle.plain.specs.Invariants.{dueLong}
 use mathlib.Core.List.{List}
 use lib.ListN.{length, getD, set}
 use Rattle.plain.specs.declared.Position.{Position}

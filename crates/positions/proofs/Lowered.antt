@@ -2,7 +2,7 @@
 use Prim.Native.Nat.{ℕ, zero, suc, _+_, _-_, _≤_, _<_, min}
 use native.Mathlib.Nat.{add-zero, zero-add}
 use native.Mathlib.Omega.{arith}
-use mathlib.Core.Path.{_≡_, refl, ap, sym, _∙_}
+use mathlib.Core.Path.{_≡_, refl, ap, sym, _∙_, subst}
 use mathlib.Core.Logic.{_≢_}
 use mathlib.Core.List.{List, [], _∷_}
 use mathlib.Core.Bool.{true, false}
@@ -11,7 +11,7 @@ use lib.Seq.{getD-set-same, getD-set-other, ext-getD}
 use lib.Dec.{ltb, eqb}
 use borrow.Author.Tests.{eq-eqb, ne-eqb, eqb-true, eqb-false, lt-ltb}
 use Rattle.laws.specs.Lists.{All, only, keep, sum}
-use Rattle.laws.specs.Asked.{Said, passed, failed, ask}
+use Rattle.laws.specs.Asked.{Said, passed, failed, ask, Within}
 use Rattle.laws.specs.Sums.{only-zero, only-min, only-sum, sum-same-all, sum-add}
 use Rattle.laws.specs.Alls.{all-of, all-keep, all-at, all-set}
 use Rattle.plain.specs.declared.Position.{Position}
@@ -20,12 +20,12 @@ use Rattle.plain.specs.declared.Manner.{Manner}
 use Rattle.plain.specs.declared.Manner.the-variants.{Delivered, BoughtIn, Cash}
 use Rattle.plain.specs.Book.{noPosition, nth}
 use Rattle.plain.specs.Dealing.{mannerNumber, longOf, Taker, dealTo, names, taken, takenBy, lowered, lowering}
-use Rattle.plain.proofs.Accepted.{Within}
-use Rattle.plain.proofs.Invariants.{Rising, dueLong, openOf, asLong}
+use Rattle.plain.specs.Invariants.{Rising, dueLong, openOf, asLong}
 use Rattle.plain.proofs.Order.{longsFrom}
 use Rattle.plain.proofs.Discharged.{length-lowering, lowering-at}
 use Rattle.positions.specs.Dealing.{inManner, loweredBy, pieceOf, Sized, Lowerable}
 use Rattle.positions.proofs.Shares.{dueShare, lowered-none, after, handed, handed-cons}
+use Rattle.plain.proofs.Numbered.{nth-at}
 
 -- THE SHARE OF EACH POSITION
 
@@ -185,6 +185,9 @@ module _ (manner : Manner) (short day quantity : ℕ) (ps : List Position) (held
   abbrev fallen : Position
   fallen = loweredBy manner quantity own
 
+  own-place : own ≡ getD ps (short - 1) noPosition
+  own-place = nth-at noPosition ps short (held .above)
+
   no-taker : dueLong day (own .security) own ≡ false
   unfolding longOf
   no-taker = rw is-short
@@ -194,7 +197,9 @@ module _ (manner : Manner) (short day quantity : ℕ) (ps : List Position) (held
   still-none = rw is-short
 
   pub same-pieces : handed manner short day (own .security) 1 quantity (set ps (short - 1) fallen) ≡ handed manner short day (own .security) 1 quantity ps
-  same-pieces = ap (λ (ts : List Taker). dealTo manner short ts quantity) (longs-set day (own .security) 1 ps (short - 1) fallen no-taker still-none)
+  same-pieces =
+      ap (λ (ts : List Taker). dealTo manner short ts quantity)
+      (longs-set day (own .security) 1 ps (short - 1) fallen (subst (λ (p : Position). dueLong day (own .security) p ≡ false) own-place no-taker) still-none)
 
   pub same-positions : after manner day (own .security) quantity (set ps (short - 1) fallen) ≡ lowering (handed manner short day (own .security) 1 quantity ps) ps
   same-positions =
@@ -239,7 +244,7 @@ module _ (manner : Manner) (short day quantity : ℕ) (ps : List Position) (held
               let here : short - 1 ≡ i = omega (arith, eqb-true short (suc i) e) in
               let now : getD started i noPosition ≡ fallen = ap (λ (j : ℕ). getD started j noPosition) (sym here) ∙ getD-set-same ps (short - 1) fallen noPosition (omega arith) in
               let none : shareAt day sec quantity i started ≡ 0 = share-other day sec quantity i started (ap (dueLong day sec) now ∙ still-none) in
-              rw (e, none, now, add-zero) (lowered-none manner fallen ∙ ap (λ (j : ℕ). loweredBy manner quantity (getD ps j noPosition)) here)
+              rw (e, none, now, add-zero) (lowered-none manner fallen ∙ ap (loweredBy manner quantity) own-place ∙ ap (λ (j : ℕ). loweredBy manner quantity (getD ps j noPosition)) here)
           go (failed e) =
               let other : i ≢ short - 1 = λ d. eqb-false short (suc i) e (omega (arith, d, held .above)) in
               rw (e, zero-add, getD-set-other ps (short - 1) i fallen noPosition other)

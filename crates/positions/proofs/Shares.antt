@@ -19,7 +19,7 @@ use Rattle.plain.specs.declared.Piece.{Piece}
 use Rattle.plain.specs.declared.Manner.{Manner}
 use Rattle.plain.specs.Book.{noPosition}
 use Rattle.plain.specs.Dealing.{due, longOf, share, dealTo}
-use Rattle.plain.proofs.Invariants.{Rising, dueLong}
+use Rattle.plain.specs.Invariants.{Rising, dueLong}
 use Rattle.plain.proofs.Order.{longsFrom}
 use Rattle.positions.specs.Dealing.{shareOf, loweredBy, pieceOf}
 

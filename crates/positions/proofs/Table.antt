@@ -4,16 +4,16 @@ use native.Mathlib.Omega.{arith}
 use mathlib.Core.Path.{_≡_, refl, ap, sym, _∙_}
 use mathlib.Core.List.{List}
 use lib.ListN.{length, getD, set, take, length-set}
-use lib.Seq.{length-take-le, getD-take, take-set-lt}
+use lib.Seq.{length-take-le, take-set-lt}
 use Rattle.laws.specs.Lists.{All}
-use Rattle.laws.specs.Alls.{all-at, all-both, all-of, all-set}
+use Rattle.laws.specs.Alls.{all-both, all-of, all-set}
 use Rattle.plain.specs.declared.Position.{Position}
 use Rattle.plain.specs.declared.Piece.{Piece}
 use Rattle.plain.specs.declared.Manner.{Manner}
 use Rattle.plain.specs.Book.{noPosition}
 use Rattle.plain.specs.Dealing.{lowering}
-use Rattle.plain.proofs.Accepted.{Within}
-use Rattle.plain.proofs.Invariants.{Whole}
+use Rattle.laws.specs.Asked.{Within}
+use Rattle.plain.specs.Invariants.{Whole}
 use Rattle.plain.proofs.Order.{takers-in-order}
 use Rattle.tables.specs.Tables.{Positions}
 use Rattle.tables.specs.Tables as tables
@@ -21,6 +21,7 @@ use Rattle.positions.specs.Dealing.{positionOf, loweredBy, Sized, Lowera
 use Rattle.positions.proofs.Shares.{handed}
 use Rattle.positions.proofs.Lowered.{rising-set, lowered-sized, same-pieces, same-positions}
 use Rattle.positions.proofs.Walk.{State, Stands, Walked, held}
+use Rattle.plain.proofs.Numbered.{nth-at, nth-take, nth-all}
 
 module _ (table : Positions) (day short quantity : ℕ) (h : Dealing table day short quantity) where
   -- the short
@@ -32,7 +33,7 @@ module _ (table : Positions) (day short quantity : ℕ) (h : Dealing table day s
 
   pub own-is : positionOf table short ≡ own
   unfolding tables.positions
-  own-is = getD-take (table .count) (table .items) (short - 1) noPosition (omega (arith, h .held .above, h .held .below))
+  own-is = nth-take noPosition (table .items) (table .count) short (h .held)
 
   table-length : length ps ≡ table .count
   unfolding tables.positions
@@ -47,7 +48,7 @@ module _ (table : Positions) (day short quantity : ℕ) (h : Dealing table day s
   own-lowerable =
       record {
         enough = h .enough;
-        sized = all-at Sized ps (short - 1) noPosition (omega (arith, table-length, h .held .above, h .held .below)) all-sized;
+        sized = nth-all noPosition Sized ps short (rw table-length (h .held)) all-sized;
       }
 
   pub short-lowerable : Lowerable own quantity
@@ -82,7 +83,7 @@ module _ (table : Positions) (day short quantity : ℕ) (h : Dealing table day s
           places = simp length-set (h .fits .places);
           room = omega arith;
           sheet = e;
-          rising = rw started (rising-set ps (short - 1) fallen (omega (arith, table-length, h .held .above, h .held .below)) (unfold loweredBy in refl) (h .rising));
+          rising = rw started (rising-set ps (short - 1) fallen (omega (arith, table-length, h .held .above, h .held .below)) (unfold loweredBy in ap (λ (p : Position). p .settlement .0) (nth-at noPosition ps short (h .held .above))) (h .rising));
           sized = rw started (all-set Sized ps (short - 1) fallen (lowered-sized manner quantity (positionOf table short) own-lowerable) all-sized);
         }
 

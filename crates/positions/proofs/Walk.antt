@@ -15,7 +15,7 @@ use Rattle.plain.specs.declared.Position.{Position}
 use Rattle.plain.specs.declared.Piece.{Piece}
 use Rattle.plain.specs.declared.Manner.{Manner}
 use Rattle.plain.specs.Book.{noPosition}
-use Rattle.plain.proofs.Invariants.{Rising}
+use Rattle.plain.specs.Invariants.{Rising}
 use Rattle.positions.specs.Dealing.{loweredBy, pieceOf, Sized}
 use Rattle.positions.proofs.Shares.{dueShare, due-share-of-none, lowered-none, after-idle, handed-idle, finalPositions, finalPieces, final-positions-next, final-pieces-next, late-all}
 

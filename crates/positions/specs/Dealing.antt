@@ -5,15 +5,15 @@ use mathlib.Core.Path.{_≡_}
 use mathlib.Core.List.{List}
 use mathlib.Core.Bool.{true}
 use lib.Dec.{eqb}
+use Rattle.laws.specs.Limits.{MOST-NETTED}
 use Rattle.laws.specs.Lists.{All, only}
 use Rattle.plain.specs.declared.Position.{Position}
 use Rattle.plain.specs.declared.Piece.{Piece}
 use Rattle.plain.specs.declared.Manner.{Manner}
-use Rattle.plain.specs.declared.Manner.the-variants.{Delivered, BoughtIn, Cash}
 use Rattle.plain.specs.Book.{noPosition, nth}
-use Rattle.plain.specs.Dealing.{mannerNumber, due, longOf, takers, dealTo, lowering}
-use Rattle.plain.proofs.Accepted.{Within}
-use Rattle.plain.proofs.Invariants.{Rising, Whole, dueLong, openOf}
+use Rattle.plain.specs.Dealing.{mannerNumber, figure, withFigures, due, longOf, takers, dealTo, lowering}
+use Rattle.laws.specs.Asked.{Within}
+use Rattle.plain.specs.Invariants.{Rising, Whole, dueLong, openOf}
 use Rattle.tables.specs.Tables.{Positions}
 use Rattle.tables.specs.Tables as tables
 use Rattle.tables.specs.Lent.{positionTable, pieceTable, rowOf}
@@ -34,19 +34,7 @@ inManner manner figure units = only (eqb (mannerNumber manner) (mannerNumber fig
 
 -- a position of which units are discharged in a manner: its open quantity falls, and the figure of that manner rises
 unfoldable pub loweredBy : Manner → ℕ → Position → Position
-loweredBy manner units p =
-    record {
-      member = p .member;
-      security = p .security;
-      short = p .short;
-      settlement = p .settlement;
-      reference = p .reference;
-      netted = p .netted;
-      delivered = p .delivered + inManner manner Delivered units;
-      bought = p .bought + inManner manner BoughtIn units;
-      cash = p .cash + inManner manner Cash units;
-      unsettled = p .unsettled - units;
-    }
+loweredBy manner units p = withFigures p (λ m. figure m p + inManner manner m units) (p .unsettled - units)
 
 -- a piece that is dealt: pieces are priced later
 abbrev pub pieceOf : Manner → ℕ → ℕ → ℕ → Piece
@@ -55,7 +43,7 @@ pieceOf manner short long units = record { short = short; long = long; quantity 
 -- figures that add up to a netted quantity of at most 512 trades of at most 1,000,000 units
 pub record Sized (p : Position) : Type 0 where
   pub whole : Whole p
-  pub bounded : p .netted ≤ 512000000
+  pub bounded : p .netted ≤ MOST-NETTED
 
 -- units that may be discharged of a position
 pub record Lowerable (p : Position) (units : ℕ) : Type 0 where
@@ -72,7 +60,7 @@ pub record Dealing (table : Positions) (day short quantity : ℕ) : Type 0 where
   pub enough : quantity ≤ positionOf table short .unsettled
   pub suffice : quantity ≤ openOf (dueLong day (positionOf table short .security)) (tables.positions table)
   pub whole : All Whole (tables.positions table)
-  pub bounded : All (λ p. p .netted ≤ 512000000) (tables.positions table)
+  pub bounded : All (λ p. p .netted ≤ MOST-NETTED) (tables.positions table)
 
 -- the pieces: "dealt out to due longs of that security"
 abbrev pub dealtOut : Positions → ℕ → ℕ → ℕ → Manner → List Piece

@@ -4,19 +4,27 @@ ghost use mathlib.Core.Path.{_≡_};
 ghost use Prim.Native.Nat.{_-_};
 ghost use lib.Dec.{eqb};
 ghost use Rattle.laws.specs.Asked.{within};
-ghost use Rattle.rules.specs.Windows.{stepOn, stepKind};
-ghost use Rattle.plain.specs.Refusals.{isMember, isQuantity, isPrice};
-ghost use Rattle.refusals.specs.Entering.{tradeRefusal, priceRefusal};
-ghost use Rattle.refusals.specs.Auctions.{runsOn, awardRefusal, attemptRefusal, offerRefusal, auctionRefusal};
-ghost use Rattle.refusals.specs.Discharging.{lookupRefusal, deliveryRefusal, confirmRefusal, cashRefusal};
-ghost use Rattle.refusals.specs.Closing.{closeRefusal};
+ghost use Rattle.rules.specs.Windows.{stepOn};
+ghost use Rattle.laws.specs.Refusals.{first};
+ghost use Rattle.plain.specs.Refusals.{isMember, isQuantity, isPrice, runsOn};
+ghost use Rattle.plain.specs.Refusals.{tradeReasons, priceReasons, lookupReasons, deliveryReasons, confirmReasons, cashReasons, attemptReasons, offerReasons, auctionReasons, awardReasons, closeReasons};
 use events::Delivery;
 use events::Offer;
 use events::Price;
 use events::Trade;
+use laws::ATTEMPTS;
 use laws::BusinessDay;
+use laws::LAST_DAY;
+use laws::MEMBERS;
+use laws::MOST_PRICE;
+use laws::MOST_QUANTITY;
+use laws::OFFERS;
+use laws::PLACES;
+use laws::TRADES;
 use plain::Award;
 use plain::Position;
+use rules::ATTEMPT;
+use rules::CASH;
 use rules::Step;
 
 // The numbers of document 01, 'Why a call is turned down'.
@@ -67,7 +75,7 @@ pub fn is_within(low: usize, high: usize, n: usize) -> bool
 fn is_member(member: u8) -> bool
     ensures { λ r. ⌜ r ≡ isMember member ⌝ }
 {
-    is_within(1, 63, member as usize)
+    is_within(1, MEMBERS as usize, member as usize)
 }
 
 fn is_security(securities: u16, security: u16) -> bool
@@ -79,17 +87,17 @@ fn is_security(securities: u16, security: u16) -> bool
 fn is_quantity(quantity: u32) -> bool
     ensures { λ r. ⌜ r ≡ isQuantity quantity ⌝ }
 {
-    is_within(1, 1_000_000, quantity as usize)
+    is_within(1, MOST_QUANTITY as usize, quantity as usize)
 }
 
 fn is_price(price: u32) -> bool
     ensures { λ r. ⌜ r ≡ isPrice price ⌝ }
 {
-    is_within(1, 10_000_000, price as usize)
+    is_within(1, MOST_PRICE as usize, price as usize)
 }
 
 pub fn trade_refusal(securities: u16, held: usize, t: Trade) -> u8
-    ensures { λ r. ⌜ r ≡ tradeRefusal securities held t ⌝ }
+    ensures { λ r. ⌜ r ≡ first (tradeReasons securities held t) ⌝ }
 {
     if !is_member(t.seller) {
         return NO_MEMBER;
@@ -109,14 +117,14 @@ pub fn trade_refusal(securities: u16, held: usize, t: Trade) -> u8
     if t.seller == t.buyer {
         return SELLER_IS_BUYER;
     }
-    if 512 <= held {
+    if TRADES <= held {
         return TRADES_FULL;
     }
     0
 }
 
 pub fn price_refusal(securities: u16, p: Price) -> u8
-    ensures { λ r. ⌜ r ≡ priceRefusal securities p ⌝ }
+    ensures { λ r. ⌜ r ≡ first (priceReasons securities p) ⌝ }
 {
     if !is_security(securities, p.security) {
         return NOT_REGISTERED;
@@ -139,7 +147,7 @@ fn runs_on(auction: u16, position: u16) -> bool
 }
 
 pub fn award_refusal(held: usize, auction: u16, position: u16) -> u8
-    ensures { λ r. ⌜ r ≡ awardRefusal held auction position ⌝ }
+    ensures { λ r. ⌜ r ≡ first (awardReasons held auction position) ⌝ }
 {
     if !is_within(1, held, position as usize) {
         return NOT_THERE;
@@ -160,14 +168,11 @@ pub fn step_today(class: u8, day: BusinessDay, p: Position) -> Step
     rules::step_on(class, day.0 - p.settlement.0)
 }
 
-fn is_attempt(step: Step) -> bool
-    ensures { λ r. ⌜ r ≡ eqb (stepKind step) 4 ⌝ }
+// Nothing is open.
+fn is_settled(unsettled: u32) -> bool
+    ensures { λ r. ⌜ r ≡ eqb unsettled 0 ⌝ }
 {
-    match step {
-        Step::Nothing => false,
-        Step::Attempt => true,
-        Step::Cash => false,
-    }
+    unsettled == 0
 }
 
 pub fn attempt_refusal(
@@ -178,12 +183,12 @@ pub fn attempt_refusal(
     attempts: usize,
     marked: bool,
 ) -> u8
-    ensures { λ r. ⌜ r ≡ attemptRefusal p today auction latest attempts marked ⌝ }
+    ensures { λ r. ⌜ r ≡ first (attemptReasons p today auction latest attempts marked) ⌝ }
 {
     if !p.short {
         return LONG;
     }
-    if !is_attempt(today) {
+    if rules::step_kind(today) != ATTEMPT {
         return OUTSIDE_WINDOW;
     }
     if 0 < auction {
@@ -192,13 +197,13 @@ pub fn attempt_refusal(
     if latest == 0 {
         return NO_PRICE;
     }
-    if 16 <= attempts {
+    if ATTEMPTS <= attempts {
         return ATTEMPTED;
     }
     if marked {
         return ATTEMPTED;
     }
-    if p.unsettled == 0 {
+    if is_settled(p.unsettled) {
         return NOT_ENOUGH;
     }
     0
@@ -206,7 +211,7 @@ pub fn attempt_refusal(
 
 // The refusals of an offer that its fields and the auction's position decide.
 pub fn offer_refusal(held: usize, auction: u16, o: Offer) -> u8
-    ensures { λ r. ⌜ r ≡ offerRefusal held auction o ⌝ }
+    ensures { λ r. ⌜ r ≡ first (offerReasons held auction o) ⌝ }
 {
     if !is_member(o.offerer) {
         return NO_MEMBER;
@@ -228,7 +233,7 @@ pub fn offer_refusal(held: usize, auction: u16, o: Offer) -> u8
 
 // Those after them, which the auction decides.
 pub fn auction_refusal(fails: bool, ceiling: u64, offers: usize, price: u32) -> u8
-    ensures { λ r. ⌜ r ≡ auctionRefusal fails ceiling offers price ⌝ }
+    ensures { λ r. ⌜ r ≡ first (auctionReasons fails ceiling offers price) ⌝ }
 {
     if fails {
         return FAILING;
@@ -236,7 +241,7 @@ pub fn auction_refusal(fails: bool, ceiling: u64, offers: usize, price: u32) -> 
     if ceiling < price as u64 {
         return ABOVE_CEILING;
     }
-    if 16 <= offers {
+    if OFFERS <= offers {
         return OFFERS_FULL;
     }
     0
@@ -244,9 +249,9 @@ pub fn auction_refusal(fails: bool, ceiling: u64, offers: usize, price: u32) -> 
 
 // The refusals before the position or award is looked at.
 pub fn lookup_refusal(sheet: usize, held: usize, number: u16) -> u8
-    ensures { λ r. ⌜ r ≡ lookupRefusal sheet held number ⌝ }
+    ensures { λ r. ⌜ r ≡ first (lookupReasons sheet held number) ⌝ }
 {
-    if sheet < 1024 {
+    if sheet < PLACES {
         return SMALL_SHEET;
     }
     if !is_within(1, held, number as usize) {
@@ -272,7 +277,7 @@ pub fn delivery_refusal(
     reserved: u32,
     d: Delivery,
 ) -> u8
-    ensures { λ r. ⌜ r ≡ deliveryRefusal p (day .0) auction reserved d ⌝ }
+    ensures { λ r. ⌜ r ≡ first (deliveryReasons p (day .0) auction (p .unsettled - reserved) d) ⌝ }
 {
     if d.quantity == 0 {
         return WRONG_QUANTITY;
@@ -293,7 +298,7 @@ pub fn delivery_refusal(
 }
 
 pub fn confirm_refusal(award: Award) -> u8
-    ensures { λ r. ⌜ r ≡ confirmRefusal award ⌝ }
+    ensures { λ r. ⌜ r ≡ first (confirmReasons award) ⌝ }
 {
     if award.confirmed {
         return CONFIRMED;
@@ -301,41 +306,31 @@ pub fn confirm_refusal(award: Award) -> u8
     0
 }
 
-fn is_cash(step: Step) -> bool
-    ensures { λ r. ⌜ r ≡ eqb (stepKind step) 8 ⌝ }
-{
-    match step {
-        Step::Nothing => false,
-        Step::Attempt => false,
-        Step::Cash => true,
-    }
-}
-
 pub fn cash_refusal(p: Position, today: Step, latest: u32) -> u8
-    ensures { λ r. ⌜ r ≡ cashRefusal p today latest ⌝ }
+    ensures { λ r. ⌜ r ≡ first (cashReasons p today latest) ⌝ }
 {
     if !p.short {
         return LONG;
     }
-    if !is_cash(today) {
+    if rules::step_kind(today) != CASH {
         return OUTSIDE_WINDOW;
     }
     if latest == 0 {
         return NO_PRICE;
     }
-    if p.unsettled == 0 {
+    if is_settled(p.unsettled) {
         return NOT_ENOUGH;
     }
     0
 }
 
-pub fn close_refusal(auctioned: u16, day: BusinessDay) -> u8
-    ensures { λ r. ⌜ r ≡ closeRefusal auctioned (day .0) ⌝ }
+pub fn close_refusal(auction: u16, day: BusinessDay) -> u8
+    ensures { λ r. ⌜ r ≡ first (closeReasons auction (day .0)) ⌝ }
 {
-    if 0 < auctioned {
+    if 0 < auction {
         return AUCTION;
     }
-    if 9_999 <= day.0 {
+    if LAST_DAY <= day.0 {
         return NO_NEXT_DAY;
     }
     0

@@ -8,8 +8,8 @@ use lib.ListN.{length, take, drop}
 use lib.Dec.{eqb}
 use borrow.Author.Tests.{le-leb, lt-leb, ne-eqb}
 use Rattle.laws.specs.Asked.{within}
-use Rattle.laws.specs.Places.{drop-replicate}
-use Rattle.register.specs.Register.{count, rightSize, zeros, padded, classBytes, isinBytes, registerOf}
+use Rattle.laws.specs.Parts.{padded, padded-copied}
+use Rattle.register.specs.Register.{count, rightSize, zeros, classBytes, isinBytes, registerOf}
 use Rattle.register.specs.declared.Register.{Register}
 
 module _ (bytes : List ℕ) where
@@ -31,14 +31,14 @@ module _ (bytes : List ℕ) where
   within-bounds l h = simp (le-leb 1 (count bytes) l, le-leb (count bytes) 32 h)
 
 -- bytes copied over the first of so many zeros
-pub copied : (size : ℕ) (from to : List ℕ) → to ≡ zeros size → from ++ drop (length from) to ≡ padded size from
-unfolding zeros padded
-copied size from to e = ap (λ (l : List ℕ). from ++ drop (length from) l) e ∙ ap (λ (l : List ℕ). from ++ l) (drop-replicate (length from) size 0)
+pub copied : (size : ℕ) (from to : List ℕ) → length from ≤ size → to ≡ zeros size → from ++ drop (length from) to ≡ padded 0 size from
+unfolding zeros
+copied size from to h e = ap (λ (l : List ℕ). from ++ drop (length from) l) e ∙ padded-copied 0 size from h
 
 abbrev pub register : ℕ → List ℕ → List ℕ → Register
 register n classes isins = record { count = n; classes = classes; isins = isins }
 
-pub made : (bytes classes isins : List ℕ) (n : ℕ) → n ≡ count bytes → classes ≡ padded 32 (take (2 + n - 2) (drop 2 bytes)) → isins ≡ padded 384 (take (2 + n + 12 * n - (2 + n)) (drop (2 + n) bytes)) → register n classes isins ≡ registerOf bytes
+pub made : (bytes classes isins : List ℕ) (n : ℕ) → n ≡ count bytes → classes ≡ padded 0 32 (take (2 + n - 2) (drop 2 bytes)) → isins ≡ padded 0 384 (take (2 + n + 12 * n - (2 + n)) (drop (2 + n) bytes)) → register n classes isins ≡ registerOf bytes
 unfolding registerOf classBytes isinBytes
 made bytes classes isins n e f g =
     let x : 2 + n - 2 ≡ n = omega arith in

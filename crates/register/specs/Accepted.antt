@@ -5,27 +5,29 @@ use native.Mathlib.Omega.{arith}
 use mathlib.Core.Path.{_≡_, refl, ap, sym, _∙_}
 use mathlib.Core.List.{List}
 use mathlib.Core.Bool.{Bool, true, false, false≢true}
-use lib.ListN.{length, getD, drop, length-append, length-replicate, length-drop, List·getD-append}
-use lib.Seq.{length-take-le, getD-take, getD-drop}
+use lib.ListN.{length, getD, drop}
+use lib.Seq.{getD-take, getD-drop}
 use lib.Dec.{eqb}
 use borrow.Author.Tests.{eqb-true, not-false}
+use Rattle.laws.specs.Limits.{SECURITIES}
+use Rattle.laws.specs.Parts.{length-padded, getD-padded}
 use Rattle.laws.specs.Refusals.{first, numbered, none-applies, each-passes, accepted, accepted-not}
 use Rattle.laws.specs.Asked.{and-left, and-right, within, within-low, within-high}
 use Rattle.laws.specs.Places.{same, same-refl, some-range}
 use Rattle.register.specs.Isin.{isin}
-use Rattle.register.specs.Register.{count, classAt, isinAt, rightSize, isClass, standsEarlier, entryReasons, entriesRefusal, refusal, zeros, padded, classBytes, isinBytes, registerOf, emptyRegister, classOf, registerRead, Sized}
+use Rattle.register.specs.Register.{count, classAt, isinAt, rightSize, isClass, standsEarlier, entryReasons, entriesRefusal, refusal, classBytes, isinBytes, registerOf, emptyRegister, registerRead, Sized}
 use Rattle.register.specs.declared.Register.{Register}
 
 pub sized : (bytes : List ℕ) → rightSize bytes ≡ true → Sized bytes (count bytes)
 unfolding rightSize
 sized bytes e =
     let n = count bytes in
-    let w : within 1 32 n ≡ true = and-left (within 1 32 n) (eqb (length bytes) (2 + 13 * n)) e in
+    let w : within 1 SECURITIES n ≡ true = and-left (within 1 SECURITIES n) (eqb (length bytes) (2 + 13 * n)) e in
     record {
       counted = refl;
-      low = within-low 1 32 n w;
-      high = within-high 1 32 n w;
-      long = eqb-true (length bytes) (2 + 13 * n) (and-right (within 1 32 n) (eqb (length bytes) (2 + 13 * n)) e);
+      low = within-low 1 SECURITIES n w;
+      high = within-high 1 SECURITIES n w;
+      long = eqb-true (length bytes) (2 + 13 * n) (and-right (within 1 SECURITIES n) (eqb (length bytes) (2 + 13 * n)) e);
     }
 
 -- an entry that is not refused: its class is 1 to 3, its ISIN passes the check and stands nowhere earlier
@@ -84,37 +86,19 @@ module _ (bytes : List ℕ) (taken : refusal bytes ≡ 0) where
       entry bytes i
       (rw zero-add at (each-passes (entryReasons bytes) (entry-numbered bytes) 0 (count bytes) i (sym (refusal-sized bytes right-size) ∙ taken) h))
 
-pub length-zeros : (n : ℕ) → length (zeros n) ≡ n
-unfolding zeros
-length-zeros n = length-replicate n 0
-
-pub length-padded : (size : ℕ) (bytes : List ℕ) → length bytes ≤ size → length (padded size bytes) ≡ size
-unfolding padded
-length-padded size bytes h =
-    length-append bytes (zeros (size - length bytes)) ∙ omega (arith, length-zeros (size - length bytes))
-
 module _ (bytes : List ℕ) (s : Sized bytes (count bytes)) where
-  pub length-class-bytes : length (classBytes bytes) ≡ count bytes
-  unfolding classBytes
-  length-class-bytes = length-take-le (count bytes) (drop 2 bytes) (omega (arith, length-drop 2 bytes, s .long))
-
-  pub length-isin-bytes : length (isinBytes bytes) ≡ 12 * count bytes
-  unfolding isinBytes
-  length-isin-bytes =
-      length-take-le (12 * count bytes) (drop (2 + count bytes) bytes) (omega (arith, length-drop (2 + count bytes) bytes, s .long))
-
   pub class-of-bytes : (i : ℕ) → i < count bytes → getD (registerOf bytes .classes) i 0 ≡ classAt bytes i
-  unfolding registerOf padded classBytes classAt
+  unfolding registerOf classBytes classAt
   class-of-bytes i h =
-      List·getD-append (classBytes bytes) (zeros (32 - length (classBytes bytes))) 0 i (omega (arith, length-class-bytes))
+      getD-padded 0 SECURITIES (classBytes bytes) i (omega (arith, s .high))
       ∙ getD-take (count bytes) (drop 2 bytes) i 0 h
       ∙ getD-drop 2 bytes i 0
 
 -- a register by value: its count and arrays are of the right size, and each class of its securities is 1, 2 or 3
 pub record Registered (r : Register) : Type 0 where
   pub low : 1 ≤ r .count
-  pub high : r .count ≤ 32
-  pub classes-long : length (r .classes) ≡ 32
+  pub high : r .count ≤ SECURITIES
+  pub classes-long : length (r .classes) ≡ SECURITIES
   pub isins-long : length (r .isins) ≡ 384
   pub class-low : (i : ℕ) → i < r .count → 1 ≤ getD (r .classes) i 0
   pub class-high : (i : ℕ) → i < r .count → getD (r .classes) i 0 ≤ 3
@@ -126,8 +110,8 @@ registered bytes taken =
     record {
       low = s .low;
       high = s .high;
-      classes-long = length-padded 32 (classBytes bytes) (omega (arith, length-class-bytes bytes s, s .high));
-      isins-long = length-padded 384 (isinBytes bytes) (omega (arith, length-isin-bytes bytes s, s .high));
+      classes-long = length-padded 0 SECURITIES (classBytes bytes);
+      isins-long = length-padded 0 384 (isinBytes bytes);
       class-low = λ i h. rw (class-of-bytes bytes s i h) (accepted-entry bytes taken i h .class-low);
       class-high = λ i h. rw (class-of-bytes bytes s i h) (accepted-entry bytes taken i h .class-high);
     }
@@ -144,13 +128,3 @@ read-refused bytes refused = accepted-not (refusal bytes) (registerOf bytes) emp
 pub read-registered : (bytes : List ℕ) → registerRead bytes .number ≡ 0 → Registered (registerRead bytes .register)
 unfolding registerRead
 read-registered bytes taken = rw (read-accepted bytes taken) (registered bytes taken)
-
--- the class of each security of a register is 1, 2 or 3
-module _ (r : Register) (v : Registered r) (security : ℕ) (first-on : 1 ≤ security) (to-last : security ≤ r .count) where
-  pub class-of-low : 1 ≤ classOf r security
-  unfolding classOf
-  class-of-low = v .class-low (security - 1) (omega arith)
-
-  pub class-of-high : classOf r security ≤ 3
-  unfolding classOf
-  class-of-high = v .class-high (security - 1) (omega arith)

@@ -3,12 +3,11 @@
 -- digit, digit sums are added, and the total is a multiple of 10."
 use Prim.Native.Nat.{ℕ, _+_, _-_, _*_, _/_, _%_}
 use mathlib.Core.List.{List, [], _∷_, reverse}
-use mathlib.Core.Bool.{Bool, true, false, cond, not, _&&_, _||_}
+use mathlib.Core.Bool.{Bool, false, cond, not, _&&_, _||_}
 use lib.ListN.{length, take, drop}
 use lib.Dec.{eqb}
 use Rattle.laws.specs.Lists.{only, each, every}
 use Rattle.laws.specs.Asked.{within}
-use Rattle.laws.specs.Refusals.{choose}
 
 -- "capital letters", A to Z; "digits", 0 to 9; "digits or capitals": characters are ASCII
 abbrev pub isCapital : ℕ → Bool
@@ -22,7 +21,7 @@ isCharacter c = isDigit c || isCapital c
 
 -- "letters become 10 to 35", a digit is its own value
 unfoldable pub value : ℕ → ℕ
-value c = choose (isCapital c) (c - 55) (only (isDigit c) (c - 48))
+value c = cond (isCapital c) (c - 55) (only (isDigit c) (c - 48))
 
 -- "the resulting digits": two of a letter, one of a digit
 unfoldable pub digits : ℕ → List ℕ
@@ -33,8 +32,7 @@ unfoldable pub digitSum : ℕ → ℕ
 digitSum n = n / 10 + n % 10
 
 abbrev pub twice : Bool → ℕ → ℕ
-twice true d = 2 * d
-twice false d = d
+twice doubled d = cond doubled (2 * d) d
 
 -- the digit sums of a list of digits, every second digit doubled: the first one where `doubled` says so
 unfoldable pub digitSums : Bool → List ℕ → ℕ

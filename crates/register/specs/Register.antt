@@ -2,12 +2,14 @@
 -- 12-byte ISINs. Words are little-endian. Count is 1 to 32; securities are numbered from 1."
 use Prim.Native.Nat.{ℕ, _+_, _-_, _*_, _≤_}
 use mathlib.Core.Path.{_≡_}
-use mathlib.Core.List.{List, [], _∷_, _++_}
+use mathlib.Core.List.{List, [], _∷_}
 use mathlib.Core.Bool.{Bool, not, _&&_}
 use lib.ListN.{length, getD, take, drop, replicate}
 use lib.Dec.{eqb}
+use Rattle.laws.specs.Limits.{SECURITIES}
 use Rattle.laws.specs.Lists.{range, each, some}
 use Rattle.laws.specs.Asked.{within}
+use Rattle.laws.specs.Parts.{padded}
 use Rattle.laws.specs.Refusals.{Reason, _⇒_, first, accepted}
 use Rattle.laws.specs.Words.{word16At}
 use Rattle.laws.specs.Places.{same}
@@ -29,7 +31,7 @@ isinAt bytes i = take 12 (drop (2 + count bytes + 12 * i) bytes)
 
 -- "The register's count or length (2 plus 13 times the count) is wrong": where this fails
 unfoldable pub rightSize : List ℕ → Bool
-rightSize bytes = within 1 32 (count bytes) && eqb (length bytes) (2 + 13 * count bytes)
+rightSize bytes = within 1 SECURITIES (count bytes) && eqb (length bytes) (2 + 13 * count bytes)
 
 -- "Class 1 is a share under the short selling regulation, 2 another security, 3 fixed income"
 abbrev pub isClass : ℕ → Bool
@@ -52,12 +54,8 @@ refusal bytes = first ((not (rightSize bytes) ⇒ 1) ∷ each (entryReasons byte
 
 -- The register that the bytes give
 
--- n zeros; bytes, and then zeros up to a size
 unfoldable pub zeros : ℕ → List ℕ
 zeros n = replicate n 0
-
-unfoldable pub padded : ℕ → List ℕ → List ℕ
-padded size bytes = bytes ++ zeros (size - length bytes)
 
 unfoldable pub classBytes : List ℕ → List ℕ
 classBytes bytes = take (count bytes) (drop 2 bytes)
@@ -67,14 +65,10 @@ isinBytes bytes = take (12 * count bytes) (drop (2 + count bytes) bytes)
 
 unfoldable pub registerOf : List ℕ → Register
 registerOf bytes =
-    record { count = count bytes; classes = padded 32 (classBytes bytes); isins = padded 384 (isinBytes bytes) }
+    record { count = count bytes; classes = padded 0 SECURITIES (classBytes bytes); isins = padded 0 384 (isinBytes bytes) }
 
 unfoldable pub emptyRegister : Register
-emptyRegister = record { count = 0; classes = zeros 32; isins = zeros 384 }
-
--- the class of a security: "securities are numbered from 1"
-unfoldable pub classOf : Register → ℕ → ℕ
-classOf r security = getD (r .classes) (security - 1) 0
+emptyRegister = record { count = 0; classes = zeros SECURITIES; isins = zeros 384 }
 
 -- what reading answers: the refusal number, and the register where that is 0
 unfoldable pub registerRead : List ℕ → RegisterRead
@@ -86,10 +80,10 @@ registerRead bytes =
 pub record Sized (bytes : List ℕ) (n : ℕ) : Type 0 where
   pub counted : n ≡ count bytes
   pub low : 1 ≤ n
-  pub high : n ≤ 32
+  pub high : n ≤ SECURITIES
   pub long : length bytes ≡ 2 + 13 * n
 
 -- Unfolding this unfolds the reading of a register: for worked examples.
 unfoldable pub computing : Unit {0}
-unfolding Rattle.register.specs.Isin.computing count classAt isinAt rightSize standsEarlier entryReasons entriesRefusal refusal zeros padded classBytes isinBytes registerOf emptyRegister classOf registerRead
+unfolding Rattle.register.specs.Isin.computing count classAt isinAt rightSize standsEarlier entryReasons entriesRefusal refusal zeros classBytes isinBytes registerOf emptyRegister registerRead
 computing = tt

@@ -3,18 +3,20 @@ ghost use mathlib.Core.Path.{_≡_};
 ghost use mathlib.Core.List.{reverse, _++_};
 ghost use Prim.Native.Nat.{_≤_, _<_};
 ghost use lib.ListN.{length, drop};
+ghost use Rattle.laws.specs.Limits.{SECURITIES};
 ghost use Rattle.laws.specs.Lists.{every};
 ghost use Rattle.laws.specs.Asked;
 ghost use Rattle.laws.specs.Refusals.{first};
 ghost use Rattle.laws.specs.Places;
 ghost use Rattle.register.specs.Isin;
 ghost use Rattle.register.specs.Register as spec;
+use laws::SECURITIES;
 
 // Securities are numbered from 1. The first `count` classes and the first 12 times `count` bytes of `isins` are the
 // register's; the others are 0.
 pub struct Register {
     pub count: u16,
-    pub classes: [u8; 32],
+    pub classes: [u8; SECURITIES],
     pub isins: [u8; 384],
 }
 
@@ -185,7 +187,7 @@ fn has_right_size(bytes: &[u8]) -> bool
     if n < 1 {
         return false;
     }
-    if 32 < n {
+    if SECURITIES < n {
         return false;
     }
     bytes.len() == 2 + 13 * n
@@ -258,10 +260,10 @@ fn register_refusal(bytes: &[u8]) -> u8
     entries_refusal(bytes, n)
 }
 
-fn zeros_32() -> [u8; 32]
-    ensures { λ r. ⌜ r ≡ spec.zeros 32 ⌝ }
+fn zeros_32() -> [u8; SECURITIES]
+    ensures { λ r. ⌜ r ≡ spec.zeros SECURITIES ⌝ }
 {
-    [0u8; 32]
+    [0u8; SECURITIES]
 }
 
 fn zeros_384() -> [u8; 384]

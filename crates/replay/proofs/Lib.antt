@@ -1,2 +1,2 @@
-pub mod Left
+pub mod Playing
 pub mod Answers

@@ -1,27 +1,22 @@
 -- Document 01, 'Event files and the player': a file of events played on a new book.
-use Prim.Native.Nat.{ℕ, zero, suc, _-_}
+use Prim.Native.Nat.{ℕ, zero, suc}
 use native.Mathlib.Omega.{arith}
 use mathlib.Core.Path.{_≡_, refl, _∙_}
 use borrow.Author.Tests.{ne-eqb}
-use mathlib.Core.List.{List, [], _∷_, map}
-use lib.Dec.{ltb}
-use lib.ListN.{length, getD, take, replicate}
-use Rattle.laws.specs.Lists.{only}
+use mathlib.Core.List.{List, [], _∷_}
 use Rattle.laws.specs.Refusals.{_⇒_, first, accepted}
 use Rattle.laws.specs.WordLaws.{nonzero}
 use Rattle.register.specs.Register.{registerRead}
 use Rattle.events.specs.declared.Event.{Event}
-use Rattle.events.specs.declared.Event.the-variants as event
 use Rattle.events.specs.File.{refusal, eventsOf}
-use Rattle.plain.specs.declared.Outcome.{Outcome}
-use Rattle.plain.specs.Book.{Book, new}
-use Rattle.plain.specs.Calls.{Call, call}
-use Rattle.plain.specs.Refusals as plain
-use Rattle.plain.specs.Histories.{run, quantity}
-use Rattle.kept.specs.View.{numberOf, quantityOf}
+use Rattle.plain.specs.Book.{Book, openingRead, new}
+use Rattle.plain.specs.Histories.{callsOf, run}
 use Rattle.calls.specs.declared.Core.{Core}
+use Rattle.calls.specs.declared.Opened.{Opened}
+use Rattle.calls.specs.Opening.{OpenedOn}
 use Rattle.calls.specs.View.{Numbers, bookOf, Held, Blank}
 use Rattle.book.specs.View.{view, Valid}
+use Rattle.history.specs.Runs.{Stand, standOf, RunsTo, Begins}
 use Rattle.replay.specs.declared.Checked.{Checked}
 use Rattle.replay.specs.declared.Replayed.{Replayed}
 
@@ -32,10 +27,6 @@ replayRefusal register file =
     ((nonzero (registerRead register .number) ⇒ registerRead register .number)
     ∷ (nonzero (refusal file) ⇒ refusal file)
     ∷ [])
-
--- the calls that events make, each with a sheet of 1,024 places
-abbrev pub callsOf : List Event → List Call
-callsOf events = map (λ e. call e 1024) events
 
 -- a core that no call was made on yet: calls may be made on it with any blank numbers, with which it stands for one plain book
 abbrev pub NewlyHeld : Core → Type 0
@@ -48,44 +39,30 @@ OpensAs b new = (a : Numbers) → Blank a → bookOf b a ≡ new
 -- is refused
 pub record ReadyFor (register file : List ℕ) (r : Checked) : Type 0 where
   pub number : r .number ≡ replayRefusal register file
-  pub book : OpensAs (r .core) (new (registerRead register .register))
+  pub book : OpensAs (r .core) (new (openingRead register))
   pub held : r .number ≡ 0 → NewlyHeld (r .core)
+  -- the core is the one that opening answered to the register
+  pub opened : ((o : Opened) × (OpenedOn register o) × (o .core ≡ r .core))
 
--- what playing some events on a core with its numbers leaves
+-- what playing some events on a core with its numbers leaves: the calls of the events were made, one after the other
 pub record PlayedUpTo (b : Core) (a : Numbers) (events : List Event) (after : Core) (z : Numbers) : Type 0 where
   pub held : Held after z
+  pub runs : RunsTo (record { core = b; numbers = a }) (callsOf events) (record { core = after; numbers = z })
   pub book : bookOf after z ≡ run (bookOf b a) (callsOf events)
+
+-- events played on a new book: the calls of the events were made from what opening answered to the register
+pub record PlayedFrom (register : List ℕ) (events : List Event) (z : Stand) : Type 0 where
+  pub start : Stand
+  pub begins : Begins register start
+  pub runs : RunsTo start (callsOf events) z
 
 -- what replaying answers: the refusal, or 0; the new book after all events of the file, or after none where something is refused;
 -- and a book that further calls take, where nothing is
 pub record ReplayedFrom (register file : List ℕ) (r : Replayed) : Type 0 where
   pub number : r .number ≡ replayRefusal register file
-  pub book : view (r .book) ≡ run (new (registerRead register .register)) (accepted (r .number) (callsOf (eventsOf file)) [])
+  pub book : view (r .book) ≡ run (new (openingRead register)) (accepted (r .number) (callsOf (eventsOf file)) [])
   pub valid : r .number ≡ 0 → Valid (r .book)
-
--- a close as a call: it has no use for a sheet
-abbrev pub closing : Call
-closing = call event.Close 0
-
--- a book after so many closes
-abbrev pub afterCloses : Book → ℕ → Book
-afterCloses b closes = run b (replicate closes closing)
-
--- the last of some events, and the call that it makes
-abbrev pub lastEvent : List Event → Event
-lastEvent events = getD events (length events - 1) event.Close
-
-abbrev pub lastCall : List Event → ℕ → Call
-lastCall events sheet = call (lastEvent events) sheet
-
--- a book after all of some events but the last
-abbrev pub beforeLast : Book → List Event → Book
-beforeLast b events = run b (callsOf (take (length events - 1) events))
-
--- what the last of some events answers, on a book that made so many closes and then all events before the last with sheets of 1,024 places
-pub record LastAnswered (b : Book) (closes : ℕ) (events : List Event) (sheet : ℕ) (o : Outcome) : Type 0 where
-  pub number : numberOf o ≡ only (ltb 0 (length events)) (plain.refusal (beforeLast (afterCloses b closes) events) (lastCall events sheet))
-  pub quantity : quantityOf o ≡ only (ltb 0 (length events)) (quantity (beforeLast (afterCloses b closes) events) (lastCall events sheet))
+  pub played : r .number ≡ 0 → PlayedFrom register (eventsOf file) (standOf (r .book))
 
 -- a number that refuses where it is not 0 decides
 pub deciding : (n : ℕ) → n ≡ first ((nonzero n ⇒ n) ∷ [])
@@ -96,6 +73,15 @@ deciding (suc n) = rw (ne-eqb (suc n) 0 (λ z. omega arith))
 second-zero : (a b : ℕ) → first ((nonzero a ⇒ a) ∷ (nonzero b ⇒ b) ∷ []) ≡ 0 → b ≡ 0
 second-zero zero b e = deciding b ∙ e
 second-zero (suc a) b e = absurd (omega (arith, rw (ne-eqb (suc a) 0 (λ z. omega arith)) at e))
+
+first-zero : (a b : ℕ) → first ((nonzero a ⇒ a) ∷ (nonzero b ⇒ b) ∷ []) ≡ 0 → a ≡ 0
+first-zero zero b e = refl
+first-zero (suc a) b e = absurd (omega (arith, rw (ne-eqb (suc a) 0 (λ z. omega arith)) at e))
+
+-- and the register is not
+pub passing-register : (register file : List ℕ) → replayRefusal register file ≡ 0 → registerRead register .number ≡ 0
+unfolding replayRefusal
+passing-register register file e = first-zero (registerRead register .number) (refusal file) e
 
 pub passing-file : (register file : List ℕ) → replayRefusal register file ≡ 0 → refusal file ≡ 0
 unfolding replayRefusal

@@ -12,10 +12,11 @@ use Rattle.laws.specs.Asked.{Said, passed, failed, ask}
 use Rattle.laws.specs.Lists.{each, range}
 use Rattle.laws.specs.Listed.{each-append, length-range, getD-range}
 use Rattle.plain.specs.declared.Position.{Position}
+use Rattle.plain.proofs.Numbered.{place-nth}
 use Rattle.plain.specs.Book.{nth, noPosition}
 use Rattle.tables.specs.Tables.{Positions, PositionsFit, positions}
-use Rattle.report.specs.Lines.{positionLine, positionLines}
-use Rattle.report.specs.Pages.{Put, Wrote, lent, back, put-lent, put-length, wrote-lent}
+use Rattle.report.specs.Lines.{LINE, positionLine, positionLines}
+use Rattle.report.specs.Pages.{Put, Wrote, lent, back, put-none, put-lent, put-length, put-text, put-wrote, wrote-lent}
 
 module _ {A : Type 0} (f : A → List ℕ) (xs : List A) (d : A) where
   -- the texts with one more
@@ -43,20 +44,45 @@ module _ {A : Type 0} (f : A → List ℕ) (xs : List A) (d : A) where
       subst (λ (l : List ℕ). Put l entry (back at page part) (at + m)) (sym (each-next i h))
       (put-lent (each f (take i xs)) entry page at w (f (getD xs i d)) part m v)
 
-  -- the same of a call that writes it, into a page with room for n lines
-  pub wrote-next : (entry page part : List ℕ) (at m i n : ℕ) → i < n → i < length xs → 80 * n ≤ length entry → at ≤ 80 * i → Put (each f (take i xs)) entry page at
-      → Wrote 80 (f (getD xs i d)) (lent at page) part m → Put (each f (take (i + 1) xs)) entry (back at page part) (at + m)
-  wrote-next entry page part at m i n h l room low w v =
-      subst (λ (t : List ℕ). Put t entry (back at page part) (at + m)) (sym (each-next i l))
-      (wrote-lent (each f (take i xs)) entry page at w 80 (f (getD xs i d)) part m (omega (arith, put-length (each f (take i xs)) entry page at w (omega arith))) v)
-
 -- the page of a loop keeps its length
 pub kept-length : (text entry page : List ℕ) (at : ℕ) → Put text entry page at → length text ≤ length entry → length page ≡ length entry
 kept-length text entry page at w h = put-length text entry page at w (omega (arith, w .bytes))
 
--- a page with room for n lines has room for another one after fewer than n
-pub room : (text entry page : List ℕ) (at i n : ℕ) → Put text entry page at → at ≤ 80 * i → i < n → 80 * n ≤ length entry → at + 80 ≤ length page
-room text entry page at i n w low h enough = omega (arith, kept-length text entry page at w (omega (arith, w .bytes)))
+-- Lines that are written one after the other, into a page with room for n of them: those of the first i elements of a list, in at most so many
+-- bytes each
+module _ {A : Type 0} (f : A → List ℕ) (xs : List A) (n : ℕ) (entry : List ℕ) where
+  pub record Lined (page : List ℕ) (at i : ℕ) : Type 0 where
+    pub within : i ≤ n
+    pub few : at ≤ LINE * i
+    pub text : Put (each f (take i xs)) entry page at
+
+  pub none-lined : Lined entry 0 0
+  none-lined = record { within = omega arith; few = omega arith; text = put-none entry }
+
+  module _ (enough : LINE * n ≤ length entry) (page : List ℕ) (at i : ℕ) (w : Lined page at i) where
+    -- the page keeps its length
+    pub lined-length : length page ≡ length entry
+    lined-length = kept-length (each f (take i xs)) entry page at (w .text) (omega (arith, w .within, w .few, w .text .bytes))
+
+    -- there is room for the next line where the others end
+    pub lined-room : i < n → at + LINE ≤ length page
+    lined-room h = omega (arith, lined-length, w .few)
+
+    -- one line more
+    pub lined-next : (d : A) (part : List ℕ) (m : ℕ) → i < n → i < length xs → Wrote LINE (f (getD xs i d)) (lent at page) part m → Lined (back at page part) (at + m) (i + 1)
+    lined-next d part m h l v =
+        record {
+          within = omega arith;
+          few = omega (arith, w .few, v .most);
+          text =
+              subst (λ (t : List ℕ). Put t entry (back at page part) (at + m)) (sym (each-next f xs d i l))
+              (wrote-lent (each f (take i xs)) entry page at (w .text) LINE (f (getD xs i d)) part m (lined-room h) v);
+        }
+
+    -- the lines are the text that was wanted
+    pub all-lined : (text : List ℕ) → each f (take i xs) ≡ text → Wrote (LINE * n) text entry page at
+    all-lined text e =
+        put-wrote (LINE * n) text entry page at enough (omega (arith, ap length e, w .within, w .few, w .text .bytes)) (put-text _ text entry page at e (w .text))
 
 -- no more are taken than there are
 pub take-min : {A : Type 0} (xs : List A) (n m : ℕ) → length xs ≡ m → take (min n m) xs ≡ take n xs
@@ -91,9 +117,8 @@ pub position-here : (table : Positions) (i : ℕ) → i < table .count → posit
 unfolding positions
 position-here table i h =
     let n : getD (range 1 (table .count)) i 0 ≡ i + 1 = getD-range 1 (table .count) i 0 h ∙ omega arith in
-    let j : i + 1 - 1 ≡ i = omega arith in
     let p : getD (table .items) i noPosition ≡ nth noPosition (take (table .count) (table .items)) (i + 1) =
-    sym (getD-take (table .count) (table .items) i noPosition h) ∙ ap (λ (k : ℕ). getD (take (table .count) (table .items)) k noPosition) (sym j) in
+    sym (place-nth noPosition (take (table .count) (table .items)) i (i + 1) (add-one i) ∙ getD-take (table .count) (table .items) i noPosition h) in
     ap (positionLine (i + 1)) p ∙ ap (positionText (take (table .count) (table .items))) (sym n)
 
 pub positions-all : (table : Positions) → PositionsFit table → each (positionText (positions table)) (take (table .count) (range 1 (table .count))) ≡ positionLines (positions table)

@@ -1,11 +1,11 @@
 -- How long each line and each block of lines can be.
-use Prim.Native.Nat.{ℕ, zero, suc, _+_, _^_, _≤_, _<_}
+use Prim.Native.Nat.{ℕ, zero, suc, _+_, _*_, _^_, _≤_, _<_}
 use native.Mathlib.Omega.{arith}
 use mathlib.Core.Path.{_≡_, refl}
 use mathlib.Core.List.{List, [], _∷_}
 use mathlib.Core.Bool.{Bool, true, false}
 use lib.ListN.{length, length-append}
-use Rattle.laws.specs.Lists.{sum, each}
+use Rattle.laws.specs.Lists.{sum, each, All}
 use Rattle.plain.specs.declared.Position.{Position}
 use Rattle.plain.specs.declared.Piece.{Piece}
 use Rattle.report.specs.Digits.{digits, digits-most}
@@ -69,16 +69,15 @@ account-most account negative cents h k =
     let e = length-line 97 (digits account ∷ signed (amount negative cents) ∷ []) in
     omega (arith, most8 account h, most-amount negative cents k)
 
--- a position's numbers before and after its letter, and its line
+-- a position's numbers before and after its letter, however many, and its line
 pub named-most : (number member : ℕ) → number < 2 ^ 16 → member < 2 ^ 8 → length (numbers (number ∷ member ∷ [])) ≤ 10
 named-most number member h k =
     let e = length-numbers (number ∷ member ∷ []) in
     omega (arith, most16 number h, most8 member k)
 
-pub five-most : (a b c d e : ℕ) → a < 2 ^ 32 → b < 2 ^ 32 → c < 2 ^ 32 → d < 2 ^ 32 → e < 2 ^ 32 → length (numbers (a ∷ b ∷ c ∷ d ∷ e ∷ [])) ≤ 55
-five-most a b c d e ha hb hc hd he =
-    let l = length-numbers (a ∷ b ∷ c ∷ d ∷ e ∷ []) in
-    omega (arith, most32 a ha, most32 b hb, most32 c hc, most32 d hd, most32 e he)
+pub figures-most : (ns : List ℕ) → All (λ n. n < 2 ^ 32) ns → length (numbers ns) ≤ 11 * length ns
+figures-most [] h = omega arith
+figures-most (n ∷ ns) h = omega (arith, length-append (digits n) (numbers ns), most32 n (h .0), figures-most ns (h .1))
 
 pub position-most : (n : ℕ) (p : Position) → n < 2 ^ 16 → p .member < 2 ^ 8 → p .netted < 2 ^ 32 → p .delivered < 2 ^ 32 → p .bought < 2 ^ 32 → p .cash < 2 ^ 32 → p .unsettled < 2 ^ 32
     → length (positionLine n p) ≤ LINE

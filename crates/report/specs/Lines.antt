@@ -5,6 +5,7 @@ use mathlib.Core.List.{List, [], _∷_, _++_, map}
 use mathlib.Core.Bool.{Bool, true, false, cond}
 use lib.ListN.{length, getD}
 use lib.IntN.{ℤ, pos, negsuc, negℤ, subℕ}
+use Rattle.laws.specs.Limits.{ACCOUNTS}
 use Rattle.laws.specs.Lists.{range, filter, each}
 use Rattle.plain.specs.declared.Position.{Position}
 use Rattle.plain.specs.declared.Piece.{Piece}
@@ -116,7 +117,7 @@ balanceText account z = cond (nonZero z) (accountLine account z) []
 
 -- the accounts: the house, 0, and the members, 1 to 63
 unfoldable pub accounts : List ℕ
-accounts = range 0 64
+accounts = range 0 ACCOUNTS
 
 -- "non-zero accounts"
 unfoldable pub accountLines : Ledger → List ℕ

@@ -6,12 +6,15 @@ ghost use mathlib.Core.List.{_∷_, [], _++_};
 ghost use Prim.Native.Nat.{_+_, _*_, _≤_, min};
 ghost use lib.IntN.{subℕ};
 ghost use lib.ListN.{length, take};
+ghost use Rattle.laws.specs.Limits.{ACCOUNTS, PLACES, POSITIONS};
 ghost use Rattle.pieces.specs.Sheet.{piecesOf};
 ghost use Rattle.tables.specs.Tables.{positions};
 ghost use Rattle.tables.specs.Lent.{positionTable};
 ghost use Rattle.report.specs.Digits.{digits};
 ghost use Rattle.report.specs.Lines.{LINE, accountLine, accountLines, amount, balanceText, eventLine, eventLines, field, number, numbers, pieceLine, pieceLines, positionLine, positionLines, refusalLine, side, signed};
 ghost use Rattle.report.specs.Pages.{Put, Wrote};
+use laws::ACCOUNTS;
+use laws::PLACES;
 use plain::Ledger;
 use plain::Manner;
 use plain::Piece;
@@ -64,11 +67,12 @@ fn put_number(page: &mut [u8], n: u64) -> usize
     1 + put_digits(&mut page[1..], n)
 }
 
-// The first `count` numbers, each as a field.
-fn put_numbers(page: &mut [u8], list: [u64; 5], count: usize) -> usize
-    requires { ⌜ (count ≤ 5) × (length (numbers (take count list)) ≤ length (now page)) ⌝ }
-    ensures { λ r. ⌜ Put (numbers (take count list)) (now (page .entry)) (now (page .exit)) r ⌝ }
+// Numbers, each as a field.
+fn put_numbers(page: &mut [u8], list: &[u64]) -> usize
+    requires { ⌜ length (numbers (now list)) ≤ length (now page) ⌝ }
+    ensures { λ r. ⌜ Put (numbers (now (list .entry))) (now (page .entry)) (now (page .exit)) r ⌝ }
 {
+    let count = list.len();
     let mut at: usize = 0;
     let mut i: usize = 0;
     while i < count {
@@ -79,13 +83,17 @@ fn put_numbers(page: &mut [u8], list: [u64; 5], count: usize) -> usize
     at
 }
 
-// A letter, the first `count` numbers as fields, and a line feed.
-fn put_line(page: &mut [u8], letter: u8, list: [u64; 5], count: usize) -> usize
-    requires { ⌜ (count ≤ 5) × (length (numbers (take count list)) + 2 ≤ length (now page)) ⌝ }
-    ensures { λ r. ⌜ Put (letter ∷ (numbers (take count list) ++ (10 ∷ []))) (now (page .entry)) (now (page .exit)) r ⌝ }
+// A line of a letter and of numbers as fields, as the functions below write theirs: into the first bytes of the page, of which the later ones
+// are kept. A page of fewer than 80 bytes is left as it is. The answer is how many bytes were written.
+fn put_line(page: &mut [u8], letter: u8, list: &[u64]) -> usize
+    requires { ⌜ length (letter ∷ (numbers (now list) ++ (10 ∷ []))) ≤ LINE ⌝ }
+    ensures { λ r. ⌜ Wrote LINE (letter ∷ (numbers (now (list .entry)) ++ (10 ∷ []))) (now (page .entry)) (now (page .exit)) r ⌝ }
 {
+    if page.len() < LINE {
+        return 0;
+    }
     page[0] = letter;
-    let end = 1 + put_numbers(&mut page[1..], list, count);
+    let end = 1 + put_numbers(&mut page[1..], list);
     page[end] = LINE_FEED;
     end + 1
 }
@@ -106,49 +114,30 @@ fn put_amount(page: &mut [u8], negative: bool, cents: u64) -> usize
     2 + put_digits(&mut page[2..], cents)
 }
 
-// The line of an event, as the functions below write theirs: into the first bytes of the page, of which the later ones
-// are kept. A page of fewer than 80 bytes is left as it is. The answer is how many bytes were written.
 pub fn event_line(page: &mut [u8], number: u32, refusal: u8, quantity: u32) -> usize
     ensures { λ r. ⌜ Wrote LINE (eventLine number refusal quantity) (now (page .entry)) (now (page .exit)) r ⌝ }
 {
-    if page.len() < LINE {
-        return 0;
-    }
-    put_line(
-        page,
-        b'e',
-        [number as u64, refusal as u64, quantity as u64, 0, 0],
-        3,
-    )
+    let list = [number as u64, refusal as u64, quantity as u64];
+    put_line(page, b'e', &list)
 }
 
 pub fn piece_line(page: &mut [u8], piece: Piece) -> usize
     ensures { λ r. ⌜ Wrote LINE (pieceLine piece) (now (page .entry)) (now (page .exit)) r ⌝ }
 {
-    if page.len() < LINE {
-        return 0;
-    }
-    put_line(
-        page,
-        b'p',
-        [
-            piece.short as u64,
-            piece.long as u64,
-            piece.quantity as u64,
-            piece.cents,
-            0,
-        ],
-        4,
-    )
+    let list = [
+        piece.short as u64,
+        piece.long as u64,
+        piece.quantity as u64,
+        piece.cents,
+    ];
+    put_line(page, b'p', &list)
 }
 
 pub fn refusal_line(page: &mut [u8], number: u8) -> usize
     ensures { λ r. ⌜ Wrote LINE (refusalLine number) (now (page .entry)) (now (page .exit)) r ⌝ }
 {
-    if page.len() < LINE {
-        return 0;
-    }
-    put_line(page, b'f', [number as u64, 0, 0, 0, 0], 1)
+    let list = [number as u64];
+    put_line(page, b'f', &list)
 }
 
 // D for a short, R for a long.
@@ -164,29 +153,21 @@ pub fn position_line(page: &mut [u8], number: u16, position: Position) -> usize
     if page.len() < LINE {
         return 0;
     }
+    let names = [number as u64, position.member as u64];
+    let figures = [
+        position.netted as u64,
+        position.delivered as u64,
+        position.bought as u64,
+        position.cash as u64,
+        position.unsettled as u64,
+    ];
     page[0] = b's';
-    let named = 1
-        + put_numbers(
-            &mut page[1..],
-            [number as u64, position.member as u64, 0, 0, 0],
-            2,
-        );
+    let named = 1 + put_numbers(&mut page[1..], &names);
     page[named] = BLANK;
     let letter = named + 1;
     page[letter] = side_of(position.short);
     let from = named + 2;
-    let end = from
-        + put_numbers(
-            &mut page[from..],
-            [
-                position.netted as u64,
-                position.delivered as u64,
-                position.bought as u64,
-                position.cash as u64,
-                position.unsettled as u64,
-            ],
-            5,
-        );
+    let end = from + put_numbers(&mut page[from..], &figures);
     page[end] = LINE_FEED;
     end + 1
 }
@@ -207,15 +188,15 @@ pub fn account_line(page: &mut [u8], account: u8, negative: bool, cents: u64) ->
 
 // No more than the 1,024 pieces that there are.
 fn at_most(count: usize) -> usize
-    ensures { λ r. ⌜ r ≡ min count 1024 ⌝ }
+    ensures { λ r. ⌜ r ≡ min count PLACES ⌝ }
 {
-    if 1024 < count { 1024 } else { count }
+    if PLACES < count { PLACES } else { count }
 }
 
 // The lines of the first `count` pieces, of all 1,024 if `count` is more. The page has at least 80 bytes for each.
 // A line does not tell the manner of its piece.
 pub fn piece_lines(page: &mut [u8], sheet: &[u64; 4096], count: usize) -> usize
-    ensures { λ r. ⌜ ((m : Manner) → Wrote (LINE * min count 1024) (pieceLines (take count (piecesOf m (now (sheet .entry))))) (now (page .entry)) (now (page .exit)) r) ⌝ }
+    ensures { λ r. ⌜ ((m : Manner) → Wrote (LINE * min count PLACES) (pieceLines (take count (piecesOf m (now (sheet .entry))))) (now (page .entry)) (now (page .exit)) r) ⌝ }
 {
     let stop = at_most(count);
     if page.len() < LINE * stop {
@@ -240,7 +221,7 @@ pub fn event_lines(
     sheet: &[u64; 4096],
     count: usize,
 ) -> usize
-    ensures { λ r. ⌜ ((m : Manner) → Wrote (LINE * (1 + min count 1024)) (eventLines number refusal quantity (take count (piecesOf m (now (sheet .entry))))) (now (page .entry)) (now (page .exit)) r) ⌝ }
+    ensures { λ r. ⌜ ((m : Manner) → Wrote (LINE * (1 + min count PLACES)) (eventLines number refusal quantity (take count (piecesOf m (now (sheet .entry))))) (now (page .entry)) (now (page .exit)) r) ⌝ }
 {
     let stop = at_most(count);
     if page.len() < LINE * (1 + stop) {
@@ -252,7 +233,7 @@ pub fn event_lines(
 
 // The lines of the first `count` positions, by rising number from 1. The page has at least 80 bytes for each.
 pub fn position_lines(page: &mut [u8], rows: &[u32; 10240], count: usize) -> usize
-    requires { ⌜ count ≤ 1024 ⌝ }
+    requires { ⌜ count ≤ POSITIONS ⌝ }
     ensures { λ r. ⌜ Wrote (LINE * count) (positionLines (positions (positionTable (now (rows .entry)) count))) (now (page .entry)) (now (page .exit)) r ⌝ }
 {
     if page.len() < LINE * count {
@@ -283,14 +264,14 @@ fn balance_line(page: &mut [u8], account: u8, credit: u64, debit: u64) -> usize
 
 // The lines of the accounts that are not zero, by rising number. The page has at least 80 bytes for each of 64.
 pub fn account_lines(page: &mut [u8], ledger: Ledger) -> usize
-    ensures { λ r. ⌜ Wrote (LINE * 64) (accountLines ledger) (now (page .entry)) (now (page .exit)) r ⌝ }
+    ensures { λ r. ⌜ Wrote (LINE * ACCOUNTS) (accountLines ledger) (now (page .entry)) (now (page .exit)) r ⌝ }
 {
-    if page.len() < LINE * 64 {
+    if page.len() < LINE * ACCOUNTS {
         return 0;
     }
     let mut at: usize = 0;
     let mut k: usize = 0;
-    while k < 64 {
+    while k < ACCOUNTS {
         let credit = ledger.credits[k];
         let debit = ledger.debits[k];
         at += balance_line(&mut page[at..], k as u8, credit, debit);

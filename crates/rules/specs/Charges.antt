@@ -1,8 +1,6 @@
 -- Document 01, 'Cash settlement', 'Close' and 'Auction': fees, fines and the charge of a buy-in, in cents. Rates are arguments of the definitions.
-use Prim.Native.Nat.{ℕ, _+_, _-_, _*_, _/_, min, max}
-use mathlib.Core.Bool.{cond}
-use lib.Dec.{leb}
-use lib.IntN.{ℤ, pos, negℤ}
+use Prim.Native.Nat.{ℕ, suc, _+_, _*_, _/_, min, max}
+use lib.IntN.{ℤ, pos, negsuc, negℤ, subℕ, _*ℤ_}
 use Rattle.rules.specs.declared.Amount.{Amount}
 use Rattle.rules.specs.declared.Amount.the-variants.{Debit, Credit}
 use Rattle.rules.specs.Classes.{byClass}
@@ -29,10 +27,17 @@ awardFine class value =
 unfoldable pub lateFine : ℕ → ℕ
 lateFine value = roundedHalfUp value 10000
 
--- "The seller is charged quantity times (award price minus the short's reference price), to account 0; a negative charge is a credit."
+-- "The seller is charged quantity times (award price minus the short's reference price)": in cents, below 0 where the charge is negative
+abbrev pub buyInCents : ℕ → ℕ → ℕ → ℤ
+buyInCents quantity price reference = pos quantity *ℤ subℕ price reference
+
+-- "a negative charge is a credit": the amount of so many cents, of which 0 is a debit
+abbrev pub amountOf : ℤ → Amount
+amountOf (pos n) = Debit n
+amountOf (negsuc n) = Credit (suc n)
+
 unfoldable pub buyInCharge : ℕ → ℕ → ℕ → Amount
-buyInCharge quantity price reference =
-    cond (leb reference price) (Debit (quantity * (price - reference))) (Credit (quantity * (reference - price)))
+buyInCharge quantity price reference = amountOf (buyInCents quantity price reference)
 
 -- an amount as the paper writes it: a charge is above zero, a credit below
 unfoldable pub inCents : Amount → ℤ

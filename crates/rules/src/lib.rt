@@ -1,7 +1,7 @@
 // The rules on numbers alone: day windows, prices, fees and fines. Each function is its definition in specs/, for all inputs.
 ghost use mathlib.Core.Path.{_≡_};
 ghost use Prim.Native.Nat.{_*_, min, max};
-ghost use Rattle.rules.specs.Windows.{stepOn, recurringStep};
+ghost use Rattle.rules.specs.Windows.{stepOn, recurringStep, stepKind};
 ghost use Rattle.rules.specs.Prices.{ceiling, raised, cashPrice};
 ghost use Rattle.rules.specs.Charges.{roundedHalfUp, fee, cashFee, awardFine, lateFine, buyInCharge};
 
@@ -11,6 +11,11 @@ pub enum Step {
     Attempt,
     Cash,
 }
+
+// The kinds of the events that the steps are.
+pub const ATTEMPT: u8 = 4;
+
+pub const CASH: u8 = 8;
 
 // What a charge makes of an account: a debit, or a credit where the charge is negative.
 pub enum Amount {
@@ -49,6 +54,17 @@ fn recurring_step(r: u16) -> Step
     }
 }
 
+// A step by the kind of its event, 0 where it is none.
+pub fn step_kind(step: Step) -> u8
+    ensures { λ r. ⌜ r ≡ stepKind step ⌝ }
+{
+    match step {
+        Step::Nothing => 0,
+        Step::Attempt => ATTEMPT,
+        Step::Cash => CASH,
+    }
+}
+
 pub fn ceiling_of(class: u8, latest: u32) -> u64
     ensures { λ r. ⌜ r ≡ ceiling class latest ⌝ }
 {
@@ -71,13 +87,14 @@ fn raised_price(class: u8, latest: u32) -> u64
     }
 }
 
-fn larger(a: u64, b: u64) -> u64
+// Named as `netting` and `auction` name theirs, which are of 32 bits.
+fn greater(a: u64, b: u64) -> u64
     ensures { λ r. ⌜ r ≡ max a b ⌝ }
 {
     if a < b { b } else { a }
 }
 
-fn smaller(a: u64, b: u64) -> u64
+fn lesser(a: u64, b: u64) -> u64
     ensures { λ r. ⌜ r ≡ min a b ⌝ }
 {
     if a < b { a } else { b }
@@ -86,8 +103,8 @@ fn smaller(a: u64, b: u64) -> u64
 pub fn cash_price(class: u8, short: u32, long: u32, latest: u32) -> u64
     ensures { λ r. ⌜ r ≡ cashPrice class short long latest ⌝ }
 {
-    let references = larger(short as u64, long as u64);
-    larger(references, raised_price(class, latest))
+    let references = greater(short as u64, long as u64);
+    greater(references, raised_price(class, latest))
 }
 
 // A divisor of 0 gives 0, as the definition's quotient does.
@@ -106,7 +123,7 @@ pub fn rounded(value: u64, divisor: u32) -> u64
 pub fn fee_within(divisor: u32, least: u64, most: u64, value: u64) -> u64
     ensures { λ r. ⌜ r ≡ fee divisor least most value ⌝ }
 {
-    smaller(most, larger(least, rounded(value, divisor)))
+    lesser(most, greater(least, rounded(value, divisor)))
 }
 
 pub fn cash_fee(value: u64) -> u64
@@ -119,7 +136,7 @@ pub fn award_fine(class: u8, value: u64) -> u64
     ensures { λ r. ⌜ r ≡ awardFine class value ⌝ }
 {
     match class {
-        1 | 2 => larger(100000, rounded(value, 2500)),
+        1 | 2 => greater(100000, rounded(value, 2500)),
         3 => 100000,
         _ => 0,
     }
@@ -141,9 +158,11 @@ pub fn value_of(quantity: u32, price: u32) -> u64
 pub fn buy_in_charge(quantity: u32, price: u32, reference: u32) -> Amount
     ensures { λ r. ⌜ r ≡ buyInCharge quantity price reference ⌝ }
 {
-    if reference <= price {
-        Amount::Debit(value_of(quantity, price - reference))
+    let bought = value_of(quantity, price);
+    let sold = value_of(quantity, reference);
+    if sold <= bought {
+        Amount::Debit(bought - sold)
     } else {
-        Amount::Credit(value_of(quantity, reference - price))
+        Amount::Credit(sold - bought)
     }
 }

@@ -1,5 +1,4 @@
 pub mod Calling
 pub mod Elements
 pub mod Filling
-pub mod Lending
 pub mod Overwriting

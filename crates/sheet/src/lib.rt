@@ -24,14 +24,6 @@ pub struct Written {
     pub count: usize,
 }
 
-// The same with the sheet, by value.
-pub struct WithSheet {
-    pub book: Book,
-    pub outcome: Outcome,
-    pub count: usize,
-    pub items: [Piece; 1024],
-}
-
 // Copies the pieces into the first places of the sheet. The later places keep their content.
 fn fill(sheet: &mut [Piece], pieces: Pieces)
     requires { ⌜ (tables.PiecesFit pieces) × (pieces .count ≤ length (now sheet)) ⌝ }
@@ -96,27 +88,4 @@ pub fn step(book: Book, sheet: &mut [Piece], e: Event) -> Written
     let done = book::step(book, places, e);
     fill(sheet, done.pieces);
     reported(done)
-}
-
-fn with_sheet(done: Written, items: [Piece; 1024]) -> WithSheet
-    ensures { λ r. ⌜ (r .book ≡ done .book) × (r .outcome ≡ done .outcome) × (r .count ≡ done .count) × (r .items ≡ items) ⌝ }
-{
-    let book = done.book;
-    let outcome = done.outcome;
-    WithSheet {
-        book,
-        outcome,
-        count: done.count,
-        items,
-    }
-}
-
-// The same on a sheet of 1,024 places by value.
-pub fn step_by_value(book: Book, items: [Piece; 1024], e: Event) -> WithSheet
-    requires { ⌜ Valid book ⌝ }
-    ensures { λ r. ⌜ (ReturnedOn book e items (r .items) (r .book) (r .outcome) (r .count)) × (length (r .items) ≡ 1024) ⌝ }
-{
-    let mut sheet = items;
-    let done = step(book, &mut sheet, e);
-    with_sheet(done, sheet)
 }

@@ -3,6 +3,7 @@ use Prim.Native.Nat.{ℕ, _≤_}
 use mathlib.Core.Path.{_≡_}
 use mathlib.Core.List.{List}
 use lib.ListN.{length, take, drop}
+use Rattle.laws.specs.Limits.{TRADES, POSITIONS, PLACES, OFFERS, AWARDS, ATTEMPTS}
 use Rattle.events.specs.declared.Trade.{Trade}
 use Rattle.plain.specs.declared.Position.{Position}
 use Rattle.plain.specs.declared.Piece.{Piece}
@@ -47,26 +48,26 @@ marks t = take (t .count) (t .items)
 
 -- the places of each table, and how many of them may be in use
 pub record TradesFit (t : Trades) : Type 0 where
-  pub places : length (t .items) ≡ 512
-  pub held : t .count ≤ 512
+  pub places : length (t .items) ≡ TRADES
+  pub held : t .count ≤ TRADES
   pub past : t .netted ≤ t .count
 
 pub record PositionsFit (t : Positions) : Type 0 where
-  pub places : length (t .items) ≡ 1024
-  pub held : t .count ≤ 1024
+  pub places : length (t .items) ≡ POSITIONS
+  pub held : t .count ≤ POSITIONS
 
 pub record PiecesFit (t : Pieces) : Type 0 where
-  pub places : length (t .items) ≡ 1024
-  pub held : t .count ≤ 1024
+  pub places : length (t .items) ≡ PLACES
+  pub held : t .count ≤ PLACES
 
 pub record AuctionFits (a : Auction) : Type 0 where
-  pub places : length (a .offers) ≡ 16
-  pub held : a .count ≤ 16
+  pub places : length (a .offers) ≡ OFFERS
+  pub held : a .count ≤ OFFERS
 
 pub record AwardsFit (t : Awards) : Type 0 where
-  pub places : length (t .items) ≡ 256
-  pub held : t .count ≤ 256
+  pub places : length (t .items) ≡ AWARDS
+  pub held : t .count ≤ AWARDS
 
 pub record MarksFit (t : Marks) : Type 0 where
-  pub places : length (t .items) ≡ 16
-  pub held : t .count ≤ 16
+  pub places : length (t .items) ≡ ATTEMPTS
+  pub held : t .count ≤ ATTEMPTS

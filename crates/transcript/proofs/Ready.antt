@@ -29,4 +29,4 @@ module _ (input : List ℕ) (end : ℕ) (is : end ≡ min (registerLength input)
   unfolding inputRefusal
   started r k =
       let same : ReadyFor (registerIn input) (fileIn input) r = subst (λ (l : List ℕ). ReadyFor (registerIn input) l r) back (subst (λ (l : List ℕ). ReadyFor l (take (length input - end) (drop end input)) r) front k) in
-      record { number = same .number; file = is; book = same .book; held = same .held }
+      record { number = same .number; file = is; book = same .book; held = same .held; opened = same .opened }

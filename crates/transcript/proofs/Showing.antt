@@ -2,60 +2,53 @@
 use Prim.Native.Nat.{ℕ, _+_, _-_, _*_, _≤_, _<_, min, max}
 use native.Mathlib.Omega.{arith}
 use mathlib.Core.Path.{_≡_, ap, sym, _∙_}
-use mathlib.Core.List.{List, _++_, map}
+use mathlib.Core.List.{List, [], _∷_, _++_}
 use lib.Dec.{ltb}
-use borrow.Author.Tests.{ltb-true, ltb-false, lt-ltb, le-ltb}
+use borrow.Author.Tests.{ltb-true, ltb-false}
 use lib.ListN.{length, getD, take, drop}
 use Rattle.laws.specs.Asked.{Said, passed, failed, ask}
 use Rattle.events.specs.declared.Event.{Event}
 use Rattle.events.specs.declared.Event.the-variants as event
 use Rattle.events.specs.File.{eventsOf}
-use Rattle.plain.specs.declared.Piece.{Piece}
 use Rattle.plain.specs.declared.Manner.{Manner}
-use Rattle.plain.specs.declared.Manner.the-variants.{Delivered}
 use Rattle.plain.specs.declared.Outcome.{Outcome}
-use Rattle.plain.specs.Book as plain
 use Rattle.plain.specs.Calls.{call}
 use Rattle.plain.specs.Refusals.{refusal}
-use Rattle.plain.specs.Histories.{next, quantity, run}
-use Rattle.pieces.specs.Sheet.{piecesOf, inManner}
+use Rattle.plain.specs.Histories.{next, quantity, run, callsOf}
+use Rattle.pieces.specs.Sheet.{piecesOf}
 use Rattle.kept.specs.View.{numberOf, quantityOf}
 use Rattle.calls.specs.declared.Core.{Core}
 use Rattle.calls.specs.View.{Numbers, bookOf, Held}
-use Rattle.calls.specs.Stepping.{Stepped}
+use Rattle.calls.specs.Stepping.{mannerOf, Stepped}
 use Rattle.calls.specs.Answers.{answered-number, answered-quantity}
-use Rattle.book.specs.declared.Book.{Book}
-use Rattle.book.specs.View.{view}
-use Rattle.sheet.specs.Lent.{ReturnedOn}
-use Rattle.replay.specs.Replay.{callsOf, lastEvent, beforeLast}
-use Rattle.report.specs.Lines.{LINE, pieceLines, eventLines, lines-of-any-manner}
-use Rattle.report.specs.Pages.{Put, Wrote, wrote-put, put-wrote, empty-wrote, put-lent, put-text, put-none, put-length, lent, back, length-lent}
-use Rattle.report.proofs.Blocks.{take-map}
-use Rattle.transcript.specs.Transcript.{eventText, eventsText, lastText}
-use Rattle.transcript.specs.Texts.{text-more, run-more}
+use Rattle.report.specs.Lines.{LINE, eventLines}
+use Rattle.report.specs.Pages.{Put, Wrote, wrote-put, put-lent, put-text, put-none, put-length, lent, back, length-lent}
+use Rattle.transcript.specs.Transcript.{eventText, eventsText}
+use Rattle.replay.specs.Replay.{PlayedUpTo}
+use Rattle.replay.proofs.Playing.{none-played, one-played, then-played}
+use Rattle.transcript.specs.Texts.{one-more, text-more}
 use Rattle.transcript.specs.Playing.{BLOCK, PlayedOn, between}
 
 -- one event on a core and the lent numbers: those after it, and its text in the page's first bytes
 pub record Shown (b : Core) (a : Numbers) (e : Event) (number : ℕ) (entry exit : List ℕ) (after : Core) (z : Numbers) (used : ℕ) : Type 0 where
   pub text : Put (eventText (bookOf b a) number e) entry exit used
   pub fits : used ≤ BLOCK
-  pub book : bookOf after z ≡ next (bookOf b a) (call e 1024)
-  pub held : Held after z
+  pub played : PlayedUpTo b a (e ∷ []) after z
 
 -- its number, quantity and pieces are written as it answered them, the pieces from the sheet as it left it
-pub shown : (b : Core) (a : Numbers) (e : Event) (number : ℕ) (entry exit : List ℕ) (after : Core) (z : Numbers) (left : List ℕ) (o : Outcome) (n used : ℕ) → BLOCK ≤ length entry → Stepped b a e after z left o n
+pub shown : (b : Core) (a : Numbers) (e : Event) (number : ℕ) (entry exit : List ℕ) (after : Core) (z : Numbers) (sheet left : List ℕ) (o : Outcome) (n used : ℕ) → BLOCK ≤ length entry → Stepped b a e sheet after z left o n
     → ((m : Manner) → Wrote (LINE * (1 + min n 1024)) (eventLines number (numberOf o) (quantityOf o) (take n (piecesOf m left))) entry exit used)
     → Shown b a e number entry exit after z used
 unfolding eventText
-shown b a e number entry exit after z left o n used room s writes =
-    let m = s .pieces .0 in
+shown b a e number entry exit after z sheet left o n used room d writes =
+    let s = d .called .returned in
+    let m = mannerOf e in
     let w = writes m in
-    let text : eventLines number (numberOf o) (quantityOf o) (take n (piecesOf m left)) ≡ eventText (bookOf b a) number e = rw (answered-number o (refusal (bookOf b a) (call e 1024)) (quantity (bookOf b a) (call e 1024)) (s .outcome), answered-quantity (bookOf b a) (call e 1024) o (s .outcome), s .pieces .1) in
+    let text : eventLines number (numberOf o) (quantityOf o) (take n (piecesOf m left)) ≡ eventText (bookOf b a) number e = rw (answered-number o (refusal (bookOf b a) (call e 1024)) (quantity (bookOf b a) (call e 1024)) (s .outcome), answered-quantity (bookOf b a) (call e 1024) o (s .outcome), s .pieces) in
     record {
       text = put-text _ _ entry exit used text (wrote-put _ _ entry exit used (omega (arith, room)) w);
       fits = omega (arith, w .most);
-      book = s .book;
-      held = s .held;
+      played = one-played b a e sheet after z left o n d;
     }
 
 -- what holds after the events from one place up to another
@@ -64,8 +57,7 @@ pub record Reached (file : List ℕ) (b : Core) (a : Numbers) (from to : ℕ) (e
   pub high : to ≤ max from (length (eventsOf file))
   pub text : Put (eventsText (bookOf b a) (from + 1) (between file from to)) entry page used
   pub fits : used ≤ length entry
-  pub book : bookOf played z ≡ run (bookOf b a) (callsOf (between file from to))
-  pub held : Held played z
+  pub played' : PlayedUpTo b a (between file from to) played z
 
 pub none-reached : (file : List ℕ) (b : Core) (a : Numbers) (from : ℕ) (page : List ℕ) → Held b a → Reached file b a from from page page b a 0
 unfolding eventsText run
@@ -76,8 +68,7 @@ none-reached file b a from page v =
       high = omega arith;
       text = rw none (put-none page);
       fits = omega arith;
-      book = rw none;
-      held = v;
+      played' = rw none (none-played b a v);
     }
 
 pub one-reached : (file : List ℕ) (b : Core) (a : Numbers) (from to : ℕ) (entry page part : List ℕ) (played after : Core) (z y : Numbers) (e : Event) (number used more : ℕ)
@@ -86,7 +77,7 @@ pub one-reached : (file : List ℕ) (b : Core) (a : Numbers) (from to : ℕ) (en
     → Reached file b a from (to + 1) entry (back used page part) after y (used + more)
 one-reached file b a from to entry page part played after z y e number used more h inside is numbered room s =
     let es = eventsOf file in
-    let same : eventText (bookOf played z) number e ≡ eventText (run (bookOf b a) (callsOf (between file from to))) (to + 1) e = rw (h .book, numbered) in
+    let same : eventText (bookOf played z) number e ≡ eventText (run (bookOf b a) (callsOf (between file from to))) (to + 1) e = rw (h .played' .book, numbered) in
     record {
       low = omega (arith, h .low);
       high = omega arith;
@@ -95,8 +86,7 @@ one-reached file b a from to entry page part played after z y e number used more
           (ap (λ (t : List ℕ). eventsText (bookOf b a) (from + 1) (between file from to) ++ t) same ∙ sym (text-more es from to event.Close e (h .low) inside is (bookOf b a)))
           (put-lent _ entry page used (h .text) _ part more (s .text));
       fits = omega (arith, s .fits);
-      book = s .book ∙ rw (h .book) (sym (run-more es from to event.Close e (h .low) inside is (bookOf b a)));
-      held = s .held;
+      played' = rw (one-more es from to event.Close e (h .low) inside is) (then-played b a (between file from to) (e ∷ []) played after z y (h .played') (s .played));
     }
 
 -- the part of the page that is lent has room for one more event
@@ -113,7 +103,7 @@ same-length file b a from to entry page played z used h = put-length _ entry pag
 pub played-on : (file : List ℕ) (b : Core) (a : Numbers) (from to : ℕ) (entry page : List ℕ) (played : Core) (z : Numbers) (used : ℕ) → Reached file b a from to entry page played z used
     → (from < length (eventsOf file) → BLOCK ≤ length entry → from < to) → PlayedOn file b a from entry page z (record { core = played; next = to; used = used })
 played-on file b a from to entry page played z used h more =
-    record { reached = h .low; within = h .high; text = h .text; fits = h .fits; book = h .book; held = h .held; further = more }
+    record { reached = h .low; within = h .high; text = h .text; fits = h .fits; played = h .played'; further = more }
 
 -- a page with room for an event has taken one, where it has no room for another
 pub some-taken : (file : List ℕ) (b : Core) (a : Numbers) (from to : ℕ) (entry page : List ℕ) (played : Core) (z : Numbers) (used : ℕ) → Reached file b a from to entry page played z used
@@ -126,27 +116,3 @@ some-taken file b a from to entry page played z used h full room = go (ask (ltb 
     go (failed p) =
         let none : to - from ≡ 0 = omega (arith, ltb-false from to p) in
         absurd (omega (arith, h .text .bytes, ap (λ (k : ℕ). length (eventsText (bookOf b a) (from + 1) (take k (drop from (eventsOf file))))) none))
-
--- The last of some events, made on a lent sheet
-module _ (b : plain.Book) (events : List Event) (entry : List ℕ) where
-  -- no event has no text
-  pub last-none : length events ≡ 0 → Wrote BLOCK (lastText b events) entry entry 0
-  unfolding lastText
-  last-none h = rw (le-ltb 0 (length events) (omega (arith, h))) (empty-wrote BLOCK entry)
-
-  -- number and quantity are written as the call answered them, and the pieces as they stand in the sheet when it returns, turned into numbers
-  pub last-shown : (before after : Book) (e : Event) (number : ℕ) (ys zs : List Piece) (xs : List ℕ) (o : Outcome) (n : ℕ) (exit : List ℕ) (used : ℕ)
-      → 0 < length events → BLOCK ≤ length entry → length ys ≡ 1024
-      → view before ≡ beforeLast b events → e ≡ lastEvent events → number ≡ length events → ReturnedOn before e ys zs after o n
-      → ((m : Manner) → piecesOf m xs ≡ map (inManner m) zs)
-      → ((m : Manner) → Wrote (LINE * (1 + min n 1024)) (eventLines number (numberOf o) (quantityOf o) (take n (piecesOf m xs))) entry exit used)
-      → Wrote BLOCK (lastText b events) entry exit used
-  unfolding lastText eventText eventLines
-  last-shown before after e number ys zs xs o n exit used some room long book is numbered on turned writes =
-      let r = on .returned in
-      let w = writes Delivered in
-      let put = wrote-put _ _ entry exit used (omega (arith, room)) w in
-      let lines : pieceLines (take n (piecesOf Delivered xs)) ≡ pieceLines (take n zs) = rw (turned Delivered, take-map (inManner Delivered) n zs) (lines-of-any-manner Delivered (take n zs)) in
-      let text : eventLines number (numberOf o) (quantityOf o) (take n (piecesOf Delivered xs)) ≡ lastText b events =
-      rw (lt-ltb 0 (length events) some, lines, ← book, ← is, ← numbered, answered-number o (refusal (view before) (call e (length ys))) (quantity (view before) (call e (length ys))) (r .outcome), answered-quantity (view before) (call e (length ys)) o (r .outcome), r .pieces, long) in
-      put-wrote BLOCK _ entry exit used room (omega (arith, put .bytes, ap length text, w .most)) (put-text _ _ entry exit used text put)

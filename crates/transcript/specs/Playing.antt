@@ -5,15 +5,16 @@ use mathlib.Core.List.{List}
 use lib.ListN.{length, take, drop}
 use Rattle.events.specs.declared.Event.{Event}
 use Rattle.events.specs.File.{eventsOf}
-use Rattle.plain.specs.Histories.{run}
 use Rattle.calls.specs.declared.Core.{Core}
-use Rattle.calls.specs.View.{Numbers, bookOf, Held}
-use Rattle.replay.specs.Replay.{callsOf, NewlyHeld, OpensAs}
+use Rattle.calls.specs.declared.Opened.{Opened}
+use Rattle.calls.specs.Opening.{OpenedOn}
+use Rattle.calls.specs.View.{Numbers, bookOf}
+use Rattle.replay.specs.Replay.{NewlyHeld, OpensAs, PlayedUpTo}
 use Rattle.report.specs.Lines.{LINE}
 use Rattle.report.specs.Pages.{Put}
 use Rattle.transcript.specs.declared.Started.{Started}
 use Rattle.transcript.specs.declared.Played.{Played}
-use Rattle.transcript.specs.Transcript.{registerLength, eventsText, inputRefusal, opened}
+use Rattle.transcript.specs.Transcript.{registerLength, registerIn, eventsText, inputRefusal, opened}
 
 -- what is answered before the first event: the refusal, or 0; where the file begins; and the new book, with whatever blank numbers
 pub record StartedOn (input : List ℕ) (r : Started) : Type 0 where
@@ -21,6 +22,8 @@ pub record StartedOn (input : List ℕ) (r : Started) : Type 0 where
   pub file : r .file ≡ min (registerLength input) (length input)
   pub book : OpensAs (r .core) (opened input)
   pub held : r .number ≡ 0 → NewlyHeld (r .core)
+  -- the core is the one that opening answered to the input's register
+  pub opened : ((o : Opened) × (OpenedOn (registerIn input) o) × (o .core ≡ r .core))
 
 -- the most bytes that an event prints: its line, and those of 1,024 pieces
 abbrev pub BLOCK : ℕ
@@ -41,6 +44,5 @@ pub record PlayedOn (file : List ℕ) (b : Core) (a : Numbers) (from : ℕ) (ent
   pub within : r .next ≤ max from (length (eventsOf file))
   pub text : Put (eventsText (bookOf b a) (from + 1) (between file from (r .next))) entry exit (r .used)
   pub fits : r .used ≤ length entry
-  pub book : bookOf (r .core) z ≡ run (bookOf b a) (callsOf (between file from (r .next)))
-  pub held : Held (r .core) z
+  pub played : PlayedUpTo b a (between file from (r .next)) (r .core) z
   pub further : from < length (eventsOf file) → BLOCK ≤ length entry → from < r .next

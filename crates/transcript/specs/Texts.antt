@@ -1,19 +1,16 @@
 -- Texts of events, one part after the other.
 use Prim.Native.Nat.{ℕ, suc, _+_, _-_, _≤_, _<_}
-use native.Mathlib.Nat.{add-zero, sub-zero}
+use native.Mathlib.Nat.{add-zero}
 use native.Mathlib.Omega.{arith}
 use mathlib.Core.Path.{_≡_, refl, ap, sym, _∙_}
 use mathlib.Core.List.{List, [], _∷_, _++_, append-assoc, append-nil}
 use lib.ListN.{length, getD, take, drop, length-drop, take-append-drop}
-use lib.Seq.{take-suc, getD-drop, drop-drop, length-take-le, take-all}
-use borrow.Author.Tests.{lt-ltb}
+use lib.Seq.{take-suc, getD-drop, drop-drop, length-take-le}
 use Rattle.events.specs.declared.Event.{Event}
-use Rattle.events.specs.declared.Event.the-variants as event
 use Rattle.plain.specs.Book.{Book}
 use Rattle.plain.specs.Calls.{call}
-use Rattle.plain.specs.Histories.{next, run}
-use Rattle.replay.specs.Replay.{callsOf, lastEvent}
-use Rattle.transcript.specs.Transcript.{eventText, eventsText, lastText}
+use Rattle.plain.specs.Histories.{next, run, callsOf}
+use Rattle.transcript.specs.Transcript.{eventText, eventsText}
 
 -- the book after some events and then others
 pub run-append : (b : Book) (es fs : List Event) → run b (callsOf (es ++ fs)) ≡ run (run b (callsOf es)) (callsOf fs)
@@ -58,15 +55,6 @@ module _ (l : List Event) (from to : ℕ) (d e : Event) (low : from ≤ to) (hig
   pub run-more : (b : Book) → run b (callsOf (take (to + 1 - from) (drop from l))) ≡ next (run b (callsOf before)) (call e 1024)
   unfolding run
   run-more b = ap (λ (es : List Event). run b (callsOf es)) one-more ∙ run-append b before (e ∷ [])
-
--- the text of some events ends in that of the last
-pub last-ends : (b : Book) (events : List Event) → 0 < length events → eventsText b 1 events ≡ eventsText b 1 (take (length events - 1) events) ++ lastText b events
-unfolding lastText
-last-ends b events some =
-    let to = length events - 1 in
-    let next : to + 1 ≡ length events = omega (arith, some) in
-    let ends = text-more events 0 to event.Close (lastEvent events) (omega arith) (omega (arith, some)) refl b in
-    rw (lt-ltb 0 (length events) some) (rw (sub-zero (to + 1), sub-zero to, next, take-all (length events) events (omega arith)) at ends)
 
 -- The events of a list from a place on: those up to another place, and the rest
 module _ (l : List Event) (from to : ℕ) (low : from ≤ to) where

@@ -1,19 +1,17 @@
 -- Document 01, 'Event files and the player': everything that the player prints for an input, byte for byte.
 use Prim.Native.Nat.{ℕ, suc, _+_, _*_}
-use mathlib.Core.Bool.{cond}
 use mathlib.Core.List.{List, [], _∷_, _++_}
-use lib.Dec.{ltb}
-use lib.ListN.{length, take, drop}
+use lib.ListN.{take, drop}
+use Rattle.laws.specs.Limits.{PLACES}
 use Rattle.laws.specs.Refusals.{accepted}
 use Rattle.laws.specs.Words.{word16At}
-use Rattle.register.specs.Register.{registerRead}
 use Rattle.events.specs.declared.Event.{Event}
 use Rattle.events.specs.File.{eventsOf}
-use Rattle.plain.specs.Book.{Book, new}
+use Rattle.plain.specs.Book.{Book, openingRead, new}
 use Rattle.plain.specs.Calls.{call}
 use Rattle.plain.specs.Refusals.{refusal}
-use Rattle.plain.specs.Histories.{next, pieces, quantity, run}
-use Rattle.replay.specs.Replay.{replayRefusal, callsOf, lastEvent, beforeLast}
+use Rattle.plain.specs.Histories.{next, pieces, quantity, run, callsOf}
+use Rattle.replay.specs.Replay.{replayRefusal}
 use Rattle.report.specs.Lines.{eventLines, positionLines, accountLines, refusalLine}
 
 -- "The register is the first 2 plus 13 times its count bytes (refusal 1 if the input is shorter), the file all the rest."
@@ -33,16 +31,12 @@ inputRefusal input = replayRefusal (registerIn input) (fileIn input)
 
 -- "Each event prints `e`, its number, refusal or 0, quantity ..; each piece `p`"; each call has a sheet of 1,024 places
 unfoldable pub eventText : Book → ℕ → Event → List ℕ
-eventText b number e = eventLines number (refusal b (call e 1024)) (quantity b (call e 1024)) (pieces b (call e 1024))
+eventText b number e = eventLines number (refusal b (call e PLACES)) (quantity b (call e PLACES)) (pieces b (call e PLACES))
 
 -- events one after the other, numbered from the given number
 unfoldable pub eventsText : Book → ℕ → List Event → List ℕ
 eventsText b number [] = []
-eventsText b number (e ∷ es) = eventText b number e ++ eventsText (next b (call e 1024)) (suc number) es
-
--- the last of some events alone, numbered as in their text; those before it are played and not shown. No event has no text.
-unfoldable pub lastText : Book → List Event → List ℕ
-lastText b events = cond (ltb 0 (length events)) (eventText (beforeLast b events) (length events) (lastEvent events)) []
+eventsText b number (e ∷ es) = eventText b number e ++ eventsText (next b (call e PLACES)) (suc number) es
 
 -- "At the end, both by rising number: positions ..; non-zero accounts"
 unfoldable pub endText : Book → List ℕ
@@ -50,7 +44,7 @@ endText b = positionLines (b .positions) ++ accountLines (b .ledger)
 
 -- the book before the first event, and the events
 abbrev pub opened : List ℕ → Book
-opened input = new (registerRead (registerIn input) .register)
+opened input = new (openingRead (registerIn input))
 
 abbrev pub eventsIn : List ℕ → List Event
 eventsIn input = eventsOf (fileIn input)

@@ -9,10 +9,9 @@ use Rattle.laws.specs.Refusals.{accepted-zero, accepted-not}
 use Rattle.events.specs.declared.Event.{Event}
 use Rattle.events.specs.File.{eventsOf}
 use Rattle.plain.specs.Book as plain
-use Rattle.plain.specs.Histories.{run}
+use Rattle.plain.specs.Histories.{run, callsOf}
 use Rattle.calls.specs.declared.Core.{Core}
 use Rattle.calls.specs.View.{Numbers, bookOf, Blank}
-use Rattle.replay.specs.Replay.{callsOf}
 use Rattle.report.specs.Lines.{refusalLine}
 use Rattle.report.specs.Pages.{put-front}
 use Rattle.transcript.specs.declared.Started.{Started}
@@ -55,7 +54,7 @@ rest-printed file within (page {b = b} {a = a} {i = i} {entry = entry} {exit = e
     let high : r .next ≤ length es = omega (arith, p .within) in
     ap₂ (λ (t u : List ℕ). t ++ u)
     (put-front (eventsText (bookOf b a) (i + 1) (between file i (r .next))) entry exit (r .used) (p .text))
-    (rest-printed file high more ∙ ap (λ (p : plain.Book). left es p (r .next)) (p .book))
+    (rest-printed file high more ∙ ap (λ (p : plain.Book). left es p (r .next)) (p .played .book))
     ∙ some-left es (bookOf b a) i (r .next) (p .reached) high
 
 -- an input that is not refused: what is printed is the transcript

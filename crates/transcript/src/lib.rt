@@ -3,17 +3,17 @@ ghost use mathlib.Core.Path.{_≡_};
 ghost use mathlib.Core.List.{List};
 ghost use Prim.Native.Nat.{ℕ, _+_, _*_, min};
 ghost use lib.ListN.{length, take};
-ghost use Rattle.events.specs.File.{eventsOf};
+ghost use Rattle.laws.specs.Limits.{PLACES};
 ghost use Rattle.plain.specs.declared.Manner.{Manner};
-ghost use Rattle.plain.specs.Book as plain;
+ghost use Rattle.plain.specs.declared.Outcome.the-variants as outcome;
 ghost use Rattle.pieces.specs.Sheet.{piecesOf};
 ghost use Rattle.kept.specs.View.{numberOf, quantityOf};
 ghost use Rattle.calls.specs.View.{numbers, bookOf, Held};
-ghost use Rattle.replay.specs.Replay.{NewlyHeld, OpensAs};
 ghost use Rattle.report.specs.Lines.{LINE, eventLines};
 ghost use Rattle.report.specs.Pages.{Wrote};
-ghost use Rattle.transcript.specs.Transcript.{registerLength, endText, lastText};
+ghost use Rattle.transcript.specs.Transcript.{registerLength, endText};
 ghost use Rattle.transcript.specs.Playing.{StartedOn, BLOCK, END, PlayedOn};
+use calls::Answered;
 use calls::Core;
 use events::Event;
 use plain::Outcome;
@@ -33,7 +33,7 @@ pub struct Played {
 }
 
 // A page with fewer bytes takes no event, since the event may have 1,024 pieces.
-const BLOCK: usize = 82_000;
+pub const BLOCK: usize = 82_000;
 
 // A page with fewer bytes is too short for 1,024 positions and 64 accounts.
 const END: usize = 87_040;
@@ -83,22 +83,34 @@ fn quantity_of(outcome: Outcome) -> u32
 }
 
 // The lines of an event, with those of its pieces, which stand in the first places of the sheet.
-fn answer_lines(
+pub fn answer_lines(
     page: &mut [u8],
     number: u32,
     outcome: Outcome,
     sheet: &[u64; 4096],
     pieces: usize,
 ) -> usize
-    ensures { λ r. ⌜ ((m : Manner) → Wrote (LINE * (1 + min pieces 1024)) (eventLines number (numberOf outcome) (quantityOf outcome) (take pieces (piecesOf m (now (sheet .entry))))) (now (page .entry)) (now (page .exit)) r) ⌝ }
+    ensures { λ r. ⌜ ((m : Manner) → Wrote (LINE * (1 + min pieces PLACES)) (eventLines number (numberOf outcome) (quantityOf outcome) (take pieces (piecesOf m (now (sheet .entry))))) (now (page .entry)) (now (page .exit)) r) ⌝ }
 {
     let refusal = number_of(outcome);
     let quantity = quantity_of(outcome);
     report::event_lines(page, number, refusal, quantity, sheet, pieces)
 }
 
+// A core on which no event was played yet, as an answer.
+fn unplayed(core: Core) -> Answered
+    ensures { λ r. ⌜ r ≡ record { core = core; outcome = outcome.Done 0; pieces = 0 } ⌝ }
+{
+    let outcome = Outcome::Done(0);
+    Answered {
+        core,
+        outcome,
+        pieces: 0,
+    }
+}
+
 // Events of a file, from a place on, as long as the page has room for one more with all its pieces. Each arm assigns the answer itself: where
-// ways of returning a core join, the compiler copies it.
+// ways of returning a core join, as in `calls::step`, the compiler copies it.
 pub fn play_events(
     page: &mut [u8],
     file: &[u8],
@@ -115,7 +127,7 @@ pub fn play_events(
 {
     let count = events::events_in(file) as usize;
     let room = page.len();
-    let mut last = replay::unplayed(core);
+    let mut last = unplayed(core);
     let mut next = from;
     let mut used: usize = 0;
     while next < count && used + BLOCK <= room {
@@ -137,28 +149,6 @@ pub fn play_events(
     }
     let core = last.core;
     Played { core, next, used }
-}
-
-// The lines of the last event of a file, whose call is made on a lent sheet of piece structs. The events before it are not shown.
-pub fn last_lines(page: &mut [u8], file: &[u8], core: Core) -> usize
-    requires { ⌜ NewlyHeld core ⌝ }
-    ensures { λ r. ⌜ ((b : plain.Book) → OpensAs core b → Wrote BLOCK (lastText b (eventsOf (now (file .entry)))) (now (page .entry)) (now (page .exit)) r) ⌝ }
-{
-    let count = events::events_in(file) as usize;
-    if count == 0 {
-        return 0;
-    }
-    if page.len() < BLOCK {
-        return 0;
-    }
-    let before = replay::before_last(core, 0, file);
-    let event = events::event_at(file, count - 1);
-    let blank = pieces::blank_pieces();
-    let done = sheet::step_by_value(before, blank, event);
-    let outcome = done.outcome;
-    let items = done.items;
-    let shown = pieces::numbers_of(items);
-    answer_lines(page, count as u32, outcome, &shown, done.count)
 }
 
 // The lines of the positions and accounts.

@@ -1,10 +1,10 @@
-//! The lines of the last event, whose call the desk makes on a lent sheet: the pieces that it prints are read from there.
+//! The lines of the last event, whose call `probe` makes on a lent sheet: the pieces that it prints are read from there.
 
 use super::player::{bought_in_below, example, input, shown, squeeze};
 use crate::check::{Check, Round, Tests};
-use crate::desk;
 use crate::events::{file_of, Event};
 use crate::histories;
+use crate::probe;
 use crate::random::Random;
 use crate::transcript;
 
@@ -85,10 +85,10 @@ impl Written {
     }
 }
 
-fn desk(input: &[u8], size: usize) -> Written {
+fn first(input: &[u8], size: usize) -> Written {
     let before = Random::new(size as u64, "page").bytes(size + 2 * MARGIN);
     let mut after = before.clone();
-    let count = desk::last_lines(input, &mut after[MARGIN..][..size]) as usize;
+    let count = probe::last_lines(input, &mut after[MARGIN..][..size]) as usize;
     let end = MARGIN + count.min(size);
     Written {
         count,
@@ -108,13 +108,13 @@ fn second(input: &[u8], size: usize) -> Written {
 
 fn compare(check: &mut Check, input: &[u8], size: usize) {
     count(check, input);
-    check.same(|| words(input, size), desk(input, size), second(input, size));
+    check.same(|| words(input, size), first(input, size), second(input, size));
 }
 
-/// Lines known beforehand, wanted of the desk and of the second implementation alike.
+/// Lines known beforehand, wanted of `probe` and of the second implementation alike.
 fn known(check: &mut Check, input: &[u8], size: usize, known: &str) {
     count(check, input);
-    check.known(|| words(input, size), desk(input, size), second(input, size), wanted(known.as_bytes(), size));
+    check.known(|| words(input, size), first(input, size), second(input, size), wanted(known.as_bytes(), size));
 }
 
 /// Counts the refusal of the input, or of its last event.

@@ -3,9 +3,10 @@
 use super::hex;
 use super::player::input;
 use crate::check::{Check, Round, Tests};
-use crate::desk::{self, Answer};
+use crate::desk::Answer;
 use crate::events::Event;
 use crate::histories;
+use crate::probe;
 use crate::transcript;
 
 const SHEETS: [u32; 6] = [0, 1, 1_023, 1_024, 1_025, 65_536];
@@ -103,12 +104,12 @@ fn second(input: &[u8], closes: u32, sheet: u32) -> Answer {
 
 fn compare(check: &mut Check, input: &[u8], closes: u32, sheet: u32) {
     let words = || format!("{} after {closes} closes with {sheet} places", hex(input));
-    check.same_answer(words, desk::last_call(input, closes, sheet), second(input, closes, sheet));
+    check.same_answer(words, probe::last_call(input, closes, sheet), second(input, closes, sheet));
 }
 
-/// An answer known beforehand, wanted of the desk and of the second implementation alike.
+/// An answer known beforehand, wanted of `probe` and of the second implementation alike.
 fn known(check: &mut Check, events: &[Event], closes: u32, sheet: u32, known: Answer) {
     let input = input(1, events);
     let words = || format!("{events:?} after {closes} closes with {sheet} places");
-    check.known_answer(words, desk::last_call(&input, closes, sheet), second(&input, closes, sheet), known);
+    check.known_answer(words, probe::last_call(&input, closes, sheet), second(&input, closes, sheet), known);
 }

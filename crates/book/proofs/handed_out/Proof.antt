@@ -6,11 +6,8 @@ use Rattle.book.proofs.handed_out.Tie as tie
 pieces-of-requires : tie.Need-pieces-of-requires
 pieces-of-requires c κs = search needs
 
-with-core-requires : tie.Need-with-core-requires
-with-core-requires c κs = search needs
-
 returns : tie.Need-returns
-returns c = rw (c .before .with-core .ensures, c .before .before .pieces-of .ensures)
+returns c = rw (c .before .pieces-of .ensures)
 
 pub handed-out-spec : {M : Type 1} → statement M
-handed-out-spec = tie.close (tie.spec pieces-of-requires with-core-requires returns)
+handed-out-spec = tie.close (tie.spec pieces-of-requires returns)

@@ -27,7 +27,7 @@ returns c =
     let o = k .before .before .before .before .open-core .ensures in
     let a = numbers (k .before .before .blank-rows .result) (k .before .blank-trades .result) (k .blank-awards .result) (c .no-counts .result) in
     let blank : Blank a =
-    record { rows = k .before .before .blank-rows .ensures; trades = k .before .blank-trades .ensures; awards = k .blank-awards .ensures; counts = c .no-counts .ensures }
+    record { rows = k .before .before .blank-rows .ensures .1; trades = k .before .blank-trades .ensures .1; awards = k .blank-awards .ensures .1; counts = c .no-counts .ensures }
     in
     record { number = o .number; book = o .book a blank; valid = λ z. record { held = o .held z a blank } }
 

@@ -42,7 +42,7 @@ returns-2 c =
     let byte : (i : ℕ) → getD file i 0 < 256 = λ i. c .before .before .before .before .before .before .before .before .before .shared-slice-known .given i .fits in
     let passes : refusal file ≡ 0 = sym (c .before .before .before .before .before .before .before .file-refusal .ensures) ∙ c .before .before .before .before .before .before .if1 .left in (
       c .before .before .write-file .ensures .0 ∙ copy-answer file page (c .before .before .before .before .read-events .result) (c .before .before .before .before .before .event-count .result) byte passes (c .before .before .before .before .before .event-count .ensures) (c .before .before .before .before .read-events .ensures),
-      c .before .before .write-file .ensures .1 ∙ copy-page file page (c .before .before .before .before .read-events .result) (c .before .before .before .before .before .event-count .result) byte passes (c .before .before .before .before .before .event-count .ensures) (c .before .before .before .before .read-events .ensures),
+      c .before .before .write-file .ensures .1 .0 ∙ copy-page file page (c .before .before .before .before .read-events .result) (c .before .before .before .before .before .event-count .result) byte passes (c .before .before .before .before .before .event-count .ensures) (c .before .before .before .before .read-events .ensures),
     )
 
 pub copy-file-spec : {M : Type 1} → statement M

@@ -1,6 +1,8 @@
--- `events::event_from` meets its contract. Each arm is a row of the table of kinds.
+-- `events::event_from` meets its contract. Each arm is a row of the table of kinds, and the last is what stands past its rows.
+use lib.ListN.{drop}
 use Rattle.events.proofs.Others.{others}
-use Rattle.events.specs.Body.{eventFrom}
+use Rattle.events.specs.declared.Event.{Event}
+use Rattle.events.specs.Body.{eventRows, eventFrom}
 use Rattle.events.proofs.event_from.Statement.{statement}
 use Rattle.events.proofs.event_from.Tie as tie
 
@@ -38,7 +40,12 @@ returns-8 c = rw (c .match .keys8)
 
 returns-9 : tie.Need-returns-9
 unfolding eventFrom
-returns-9 c = others _ _ _ _ _ _ _ _ _ (c .before .args .kind) (c .match .rest)
+returns-9 c = rw (c .match .keys9)
+
+returns-10 : tie.Need-returns-10
+unfolding eventFrom
+returns-10 c =
+    others Event.Close (drop 1 (eventRows (c .before .args .f))) (c .before .args .kind) (c .match .rest)
 
 pub event-from-spec : {M : Type 1} → statement M
 event-from-spec =
@@ -52,4 +59,5 @@ event-from-spec =
     returns-6
     returns-7
     returns-8
-    returns-9)
+    returns-9
+    returns-10)

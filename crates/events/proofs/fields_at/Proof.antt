@@ -4,6 +4,9 @@ use borrow.Author.Needs.{needs}
 use Rattle.events.proofs.fields_at.Statement.{statement}
 use Rattle.events.proofs.fields_at.Tie as tie
 
+add-word16-at : tie.Need-add-word16-at
+add-word16-at c = search needs
+
 word16-at-requires : tie.Need-word16-at-requires
 word16-at-requires c κs = search needs
 
@@ -42,6 +45,7 @@ pub fields-at-spec : {M : Type 1} → statement M
 fields-at-spec =
     tie.close
     (tie.spec
+    add-word16-at
     word16-at-requires
     add-byte-at
     byte-at-requires

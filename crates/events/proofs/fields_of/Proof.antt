@@ -1,6 +1,6 @@
--- `events::fields_of` meets its contract. Each arm is a clause of the definition.
-use mathlib.Core.Path.{sym, ap, _∙_}
-use Rattle.events.specs.Body.{fieldsOf}
+-- `events::fields_of` meets its contract. Each arm is a clause of the definition, and its fields are in their widths.
+use mathlib.Core.Path.{sym, ap, subst, _∙_}
+use Rattle.events.specs.Body.{fieldsOf, InWidth}
 use borrow.Author.Needs.{needs}
 use Rattle.events.proofs.fields_of.Statement.{statement}
 use Rattle.events.proofs.fields_of.Tie as tie
@@ -61,39 +61,57 @@ fields-with-requires-9 c κs = tt
 
 returns : tie.Need-returns
 unfolding fieldsOf
-returns c = c .fields-with .ensures ∙ sym (ap fieldsOf (c .before .before .event .given .1))
+returns c =
+    let same = c .fields-with .ensures .0 ∙ sym (ap fieldsOf (c .before .before .event .given .1)) in
+    (same, subst InWidth same (c .fields-with .ensures .1))
 
 returns-2 : tie.Need-returns-2
 unfolding fieldsOf
-returns-2 c = c .fields-with2 .ensures ∙ sym (ap fieldsOf (c .before .before .event2 .given .1))
+returns-2 c =
+    let same = c .fields-with2 .ensures .0 ∙ sym (ap fieldsOf (c .before .before .event2 .given .1)) in
+    (same, subst InWidth same (c .fields-with2 .ensures .1))
 
 returns-3 : tie.Need-returns-3
 unfolding fieldsOf
-returns-3 c = c .fields-with3 .ensures ∙ sym (ap fieldsOf (c .before .before .event3 .given .1))
+returns-3 c =
+    let same = c .fields-with3 .ensures .0 ∙ sym (ap fieldsOf (c .before .before .event3 .given .1)) in
+    (same, subst InWidth same (c .fields-with3 .ensures .1))
 
 returns-4 : tie.Need-returns-4
 unfolding fieldsOf
-returns-4 c = c .fields-with4 .ensures ∙ sym (ap fieldsOf (c .before .before .event4 .given .1))
+returns-4 c =
+    let same = c .fields-with4 .ensures .0 ∙ sym (ap fieldsOf (c .before .before .event4 .given .1)) in
+    (same, subst InWidth same (c .fields-with4 .ensures .1))
 
 returns-5 : tie.Need-returns-5
 unfolding fieldsOf
-returns-5 c = c .fields-with5 .ensures ∙ sym (ap fieldsOf (c .before .before .event5 .given .1))
+returns-5 c =
+    let same = c .fields-with5 .ensures .0 ∙ sym (ap fieldsOf (c .before .before .event5 .given .1)) in
+    (same, subst InWidth same (c .fields-with5 .ensures .1))
 
 returns-6 : tie.Need-returns-6
 unfolding fieldsOf
-returns-6 c = c .fields-with6 .ensures ∙ sym (ap fieldsOf (c .before .before .event6 .given .1))
+returns-6 c =
+    let same = c .fields-with6 .ensures .0 ∙ sym (ap fieldsOf (c .before .before .event6 .given .1)) in
+    (same, subst InWidth same (c .fields-with6 .ensures .1))
 
 returns-7 : tie.Need-returns-7
 unfolding fieldsOf
-returns-7 c = c .fields-with7 .ensures ∙ sym (ap fieldsOf (c .before .before .event7 .given .1))
+returns-7 c =
+    let same = c .fields-with7 .ensures .0 ∙ sym (ap fieldsOf (c .before .before .event7 .given .1)) in
+    (same, subst InWidth same (c .fields-with7 .ensures .1))
 
 returns-8 : tie.Need-returns-8
 unfolding fieldsOf
-returns-8 c = c .fields-with8 .ensures ∙ sym (ap fieldsOf (c .before .before .event8 .given .1))
+returns-8 c =
+    let same = c .fields-with8 .ensures .0 ∙ sym (ap fieldsOf (c .before .before .event8 .given .1)) in
+    (same, subst InWidth same (c .fields-with8 .ensures .1))
 
 returns-9 : tie.Need-returns-9
 unfolding fieldsOf
-returns-9 c = c .fields-with9 .ensures ∙ sym (ap fieldsOf (c .before .enum-told .given .1))
+returns-9 c =
+    let same = c .fields-with9 .ensures .0 ∙ sym (ap fieldsOf (c .before .enum-told .given .1)) in
+    (same, subst InWidth same (c .fields-with9 .ensures .1))
 
 pub fields-of-spec : {M : Type 1} → statement M
 fields-of-spec =

@@ -1,26 +1,29 @@
--- `events::put_bodies` meets its contract. The loop's invariant: the bodies of the first i events are written.
+-- `events::put_bodies` meets its contract. The loop's invariant: the bodies of the first i events are written, and these events fit
+-- their fields, as the numbers that a machine holds do.
 use Prim.Native.Nat.{_*_, _≤_, _-_, _+_}
 use native.Mathlib.Omega.{arith}
-use mathlib.Core.Path.{_≡_, refl, ap, _∙_}
+use mathlib.Core.Path.{_≡_, refl}
 use lib.ListN.{take, length}
 use lib.Seq.{sets}
 use borrow.Author.Needs.{needs}
-use Rattle.laws.specs.Lists.{each}
-use Rattle.events.specs.Body.{body, bodyOf, fieldsOf}
+use Rattle.laws.specs.Limits.{EVENTS}
+use Rattle.laws.specs.Lists.{All, each}
+use Rattle.events.specs.Layout.{HEADER, BODY}
+use Rattle.events.specs.Body.{bodyOf, Fits}
 use Rattle.events.specs.Inverse.{length-body}
-use Rattle.events.proofs.Writing.{part-written, parts-written, same-long}
+use Rattle.events.proofs.Writing.{event-written, part-written, parts-written, all-more, all-of-them, same-long}
 use Rattle.events.proofs.put_bodies.Statement.{statement}
 use Rattle.events.proofs.put_bodies.Tie as tie
 
 abbrev Inv-loop : tie.InvT-loop
 Inv-loop page₀ count events i₀ page i =
-    (i ≤ count) × (page ≡ sets page₀ (4 + count) (each bodyOf (take i events)))
+    (i ≤ count) × (page ≡ sets page₀ (HEADER + count) (each bodyOf (take i events))) × All Fits (take i events)
 
 abbrev μ-loop : tie.MeasureT-loop
 μ-loop page₀ count events i₀ page i = count - i
 
 loop-holds : tie.Need-loop-holds Inv-loop μ-loop
-loop-holds c = (omega arith, refl)
+loop-holds c = (omega arith, refl, tt)
 
 mul-event : tie.Need-mul-event Inv-loop μ-loop
 mul-event c = omega arith
@@ -41,7 +44,7 @@ fields-of-requires : tie.Need-fields-of-requires Inv-loop μ-loop
 fields-of-requires c κs = tt
 
 put-body-requires : tie.Need-put-body-requires Inv-loop μ-loop
-put-body-requires c κs = omega (arith, same-long (c .before .before .before .before .before .before .args .page .now) (c .before .before .before .before .loop .page) (each bodyOf (take (c .before .before .before .before .loop .i) (c .before .before .before .before .before .before .args .t2))) (4 + c .before .before .before .before .before .before .args .count) (c .before .before .before .before .loop .inv .1))
+put-body-requires c κs = omega (arith, same-long (c .before .before .before .before .before .before .args .page .now) (c .before .before .before .before .loop .page) (each bodyOf (take (c .before .before .before .before .loop .i) (c .before .before .before .before .before .before .args .t2))) (HEADER + c .before .before .before .before .before .before .args .count) (c .before .before .before .before .loop .inv .1))
 
 add-i : tie.Need-add-i Inv-loop μ-loop
 add-i c = omega arith
@@ -51,18 +54,21 @@ loop-less c = omega arith
 
 loop-again : tie.Need-loop-again Inv-loop μ-loop
 loop-again c =
-    let long : length (c .before .before .before .before .before .before .before .before .before .args .t2) ≡ 2048 = search needs in (
+    let long : length (c .before .before .before .before .before .before .before .before .before .args .t2) ≡ EVENTS = search needs in (
       omega arith,
-      part-written bodyOf 16 (λ e. length-body (fieldsOf e)) (c .before .before .before .before .before .before .before .before .before .args .page .now) (c .before .before .before .before .before .before .before .loop .page) (c .before .before .put-body .last .0) (c .before .before .before .before .before .before .before .before .before .args .t2) (4 + c .before .before .before .before .before .before .before .before .before .args .count) (c .before .before .before .before .before .before .before .loop .i) (4 + c .before .before .before .before .before .before .before .before .before .args .count + 16 * c .before .before .before .before .before .before .before .loop .i) _ (c .before .before .before .before .before .before .before .loop .inv .1) (omega arith)
-          (c .before .before .put-body .ensures ∙ ap (λ f. sets (c .before .before .before .before .before .before .before .loop .page) (4 + c .before .before .before .before .before .before .before .before .before .args .count + 16 * c .before .before .before .before .before .before .before .loop .i) (body f)) (c .before .before .before .fields-of .ensures)) (omega arith),
+      part-written bodyOf BODY length-body (c .before .before .before .before .before .before .before .before .before .args .page .now) (c .before .before .before .before .before .before .before .loop .page) (c .before .before .put-body .last .0) (c .before .before .before .before .before .before .before .before .before .args .t2) (HEADER + c .before .before .before .before .before .before .before .before .before .args .count) (c .before .before .before .before .before .before .before .loop .i) (HEADER + c .before .before .before .before .before .before .before .before .before .args .count + BODY * c .before .before .before .before .before .before .before .loop .i) _ (c .before .before .before .before .before .before .before .loop .inv .1) (omega arith)
+          (event-written (c .before .before .before .before .before .before .before .loop .page) (c .before .before .put-body .last .0) _ _ _ (c .before .before .put-body .ensures) (c .before .before .before .fields-of .ensures .0)) (omega arith),
+      all-more Fits (c .before .before .before .before .before .before .before .before .before .args .t2) (c .before .before .before .before .before .before .before .loop .i) _ (omega arith) (c .before .before .before .before .before .before .before .loop .inv .2) (c .before .before .before .fields-of .ensures .1),
     )
 
 same-length : tie.Need-same-length Inv-loop μ-loop
-same-length c = same-long (c .before .before .before .args .page .now) (c .before .loop .page) (each bodyOf (take (c .before .loop .i) (c .before .before .before .args .t2))) (4 + c .before .before .before .args .count) (c .before .loop .inv .1)
+same-length c = same-long (c .before .before .before .args .page .now) (c .before .loop .page) (each bodyOf (take (c .before .loop .i) (c .before .before .before .args .t2))) (HEADER + c .before .before .before .args .count) (c .before .loop .inv .1)
 
 returns : tie.Need-returns Inv-loop μ-loop
-returns c =
-    parts-written bodyOf 16 (λ e. length-body (fieldsOf e)) (c .before .before .before .args .page .now) _ (c .before .before .before .args .t2) (4 + c .before .before .before .args .count) (c .before .loop .i) (c .before .before .before .args .count) (c .before .loop .inv .1) (c .before .loop .inv .0) (c .loop-test .left)
+returns c = (
+  parts-written bodyOf BODY length-body (c .before .before .before .args .page .now) _ (c .before .before .before .args .t2) (HEADER + c .before .before .before .args .count) (c .before .loop .i) (c .before .before .before .args .count) (c .before .loop .inv .1) (c .before .loop .inv .0) (c .loop-test .left),
+  all-of-them Fits (c .before .before .before .args .t2) (c .before .loop .inv .2) (c .before .loop .inv .0) (c .loop-test .left),
+)
 
 pub put-bodies-spec : {M : Type 1} → statement M
 put-bodies-spec =

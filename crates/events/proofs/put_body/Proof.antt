@@ -7,6 +7,9 @@ use borrow.Author.Needs.{needs}
 use Rattle.events.proofs.put_body.Statement.{statement}
 use Rattle.events.proofs.put_body.Tie as tie
 
+add-put16 : tie.Need-add-put16
+add-put16 c = search needs
+
 put16-requires : tie.Need-put16-requires
 put16-requires c κs = search needs
 
@@ -50,6 +53,7 @@ pub put-body-spec : {M : Type 1} → statement M
 put-body-spec =
     tie.close
     (tie.spec
+    add-put16
     put16-requires
     add-page
     slice-write-page

@@ -4,6 +4,7 @@ use native.Mathlib.Omega.{arith}
 use mathlib.Core.Path.{_≡_, sym, _∙_}
 use lib.ListN.{take}
 use denote.Ref.{now}
+use Rattle.laws.specs.Limits.{EVENTS}
 use Rattle.laws.specs.Parts.{padded, padded-none}
 use Rattle.events.specs.declared.Event.{Event}
 use Rattle.events.specs.File.{eventsOf}
@@ -13,7 +14,7 @@ use Rattle.events.proofs.read_events.Tie as tie
 
 abbrev Inv-loop : tie.InvT-loop
 Inv-loop file events₀ stop i₀ events i =
-    (i ≤ stop) × (events ≡ padded Event.Close 2048 (take i (eventsOf file)))
+    (i ≤ stop) × (events ≡ padded Event.Close EVENTS (take i (eventsOf file)))
 
 abbrev μ-loop : tie.MeasureT-loop
 μ-loop file events₀ stop i₀ events i = stop - i
@@ -25,7 +26,7 @@ events-read-requires : tie.Need-events-read-requires Inv-loop μ-loop
 events-read-requires c κs = tt
 
 loop-holds : tie.Need-loop-holds Inv-loop μ-loop
-loop-holds c = (omega arith, c .before .closes .ensures ∙ sym (padded-none Event.Close 2048))
+loop-holds c = (omega arith, c .before .closes .ensures ∙ sym (padded-none Event.Close EVENTS))
 
 event-at-requires : tie.Need-event-at-requires Inv-loop μ-loop
 event-at-requires c κs = tt

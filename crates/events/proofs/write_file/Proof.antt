@@ -4,9 +4,10 @@ use mathlib.Core.Path.{_≡_}
 use lib.ListN.{length, take}
 use lib.Seq.{length-take-le}
 use denote.Ref.{now}
+use Rattle.laws.specs.Limits.{EVENTS}
 use Rattle.events.specs.File.{writingRefusal}
 use Rattle.events.proofs.Answers.{many, short, enough}
-use Rattle.events.proofs.Writing.{file-written}
+use Rattle.events.proofs.Writing.{file-written, read-back}
 use borrow.Author.Needs.{needs}
 use Rattle.events.proofs.write_file.Statement.{statement}
 use Rattle.events.proofs.write_file.Tie as tie
@@ -14,7 +15,7 @@ use Rattle.events.proofs.write_file.Tie as tie
 returns : tie.Need-returns
 returns c =
     let e : writingRefusal (c .before .before .args .count) (length (now (c .before .before .args .page))) ≡ 5 = many (c .before .before .args .count) (length (now (c .before .before .args .page))) (c .if1 .taken) in
-    (rw e, rw e)
+    (rw e, (rw e, λ z. absurd (omega arith)))
 
 mul-bytes : tie.Need-mul-bytes
 mul-bytes c = search needs
@@ -25,7 +26,7 @@ add-bytes c = search needs
 returns-2 : tie.Need-returns-2
 returns-2 c =
     let e : writingRefusal (c .before .before .before .args .count) (length (now (c .before .before .before .args .page))) ≡ 5 = short (c .before .before .before .args .count) (length (now (c .before .before .before .args .page))) (c .before .if1 .left) (c .if2 .taken) in
-    (rw e, rw e)
+    (rw e, (rw e, λ z. absurd (omega arith)))
 
 cast-put16 : tie.Need-cast-put16
 cast-put16 c = search needs
@@ -54,10 +55,14 @@ returns-3 c =
     let page = now (c .before .before .before .before .before .before .before .before .before .before .before .before .before .before .before .before .before .before .before .args .page) in
     let events = take n (c .before .before .before .before .before .before .before .before .before .before .before .before .before .before .before .before .before .before .before .args .events) in
     let e : writingRefusal n (length page) ≡ 0 = enough n (length page) (c .before .before .before .before .before .before .before .before .before .before .before .before .before .before .before .before .before .if1 .left) (c .before .before .before .before .before .before .before .before .before .before .before .before .before .before .before .before .if2 .left) in
-    let long : length (c .before .before .before .before .before .before .before .before .before .before .before .before .before .before .before .before .before .before .before .args .events) ≡ 2048 = search needs in (
+    let listed : length (c .before .before .before .before .before .before .before .before .before .before .before .before .before .before .before .before .before .before .before .args .events) ≡ EVENTS = search needs in
+    let long : length events ≡ n = length-take-le n (c .before .before .before .before .before .before .before .before .before .before .before .before .before .before .before .before .before .before .before .args .events) (omega (arith, c .before .before .before .before .before .before .before .before .before .before .before .before .before .before .before .before .before .if1 .left)) in
+    let written = file-written page (c .before .before .before .before .before .before .before .before .before .before .before .before .before .before .put16 .last .0) (c .before .before .before .before .before .before .before .before .before .before .put162 .last .0) (c .before .before .before .before .before .before .put-kinds .last .0) (c .before .before .put-bodies .last .0) events n long (c .before .before .before .before .before .before .before .before .before .before .before .before .before .before .before .before .if2 .left) (c .before .before .before .before .before .before .before .before .before .before .before .before .before .before .put16 .ensures) (c .before .before .before .before .before .before .before .before .before .before .put162 .ensures) (c .before .before .before .before .before .before .put-kinds .ensures) (c .before .before .put-bodies .ensures .0) in (
       rw e,
-      rw e
-          (file-written page (c .before .before .before .before .before .before .before .before .before .before .before .before .before .before .put16 .last .0) (c .before .before .before .before .before .before .before .before .before .before .put162 .last .0) (c .before .before .before .before .before .before .put-kinds .last .0) (c .before .before .put-bodies .last .0) events n (length-take-le n (c .before .before .before .before .before .before .before .before .before .before .before .before .before .before .before .before .before .before .before .args .events) (omega (arith, c .before .before .before .before .before .before .before .before .before .before .before .before .before .before .before .before .before .if1 .left))) (c .before .before .before .before .before .before .before .before .before .before .before .before .before .before .before .before .if2 .left) (c .before .before .before .before .before .before .before .before .before .before .before .before .before .before .put16 .ensures) (c .before .before .before .before .before .before .before .before .before .before .put162 .ensures) (c .before .before .before .before .before .before .put-kinds .ensures) (c .before .before .put-bodies .ensures)),
+      (
+        rw e written,
+        λ z. read-back events _ _ n long (c .before .before .before .before .before .before .before .before .before .before .before .before .before .before .before .before .before .if1 .left) (c .before .before .put-bodies .ensures .1) written,
+      ),
     )
 
 pub write-file-spec : {M : Type 1} → statement M

@@ -13,7 +13,7 @@ use lib.Seq.{getD-take, length-take-le}
 use Rattle.laws.specs.Alls.{all-at}
 use Rattle.plain.specs.declared.Position.{Position}
 use Rattle.plain.specs.Book.{noPosition}
-use Rattle.plain.proofs.Accepted.{Within}
+use Rattle.laws.specs.Asked.{Within}
 use Rattle.tables.specs.Tables.{positions}
 use Rattle.rows.specs.Rows.{rowsOf}
 use Rattle.tables.specs.Lent.{positionTable}

@@ -1,6 +1,8 @@
 -- `failing::with_late_short` meets its contract: the count and the word that it stores are those of one late open short more.
+use Prim.Native.Nat.{ℕ}
 use borrow.Author.Needs.{needs}
 use native.Mathlib.Omega.{arith}
+use Rattle.plain.proofs.Numbered.{nth-at}
 use Rattle.failing.proofs.Counting.{counted-more}
 use Rattle.failing.proofs.with_late_short.Statement.{statement}
 use Rattle.failing.proofs.with_late_short.Tie as tie
@@ -48,7 +50,7 @@ returns : tie.Need-returns
 returns c =
     let s = c .before .before .before in
     let h = s .before .pre .0 in
-    λ day next ps qs counted more. rw (s .count-place .ensures) (counted-more day next ps qs _ _ more _ _ counted (h .within) (h .below) _ (c .with-member .ensures))
+    λ day next ps qs counted more. rw (s .count-place .ensures) (counted-more day next ps qs _ _ more _ _ counted (h .within) (h .below) _ (rw (nth-at {A = ℕ} 0 _ _ (h .within .above)) (c .with-member .ensures)))
 
 pub with-late-short-spec : {M : Type 1} → statement M
 with-late-short-spec =

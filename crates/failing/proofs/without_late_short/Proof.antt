@@ -1,7 +1,9 @@
 -- `failing::without_late_short` meets its contract: the count and the word that it stores are those of one late open short less.
+use Prim.Native.Nat.{ℕ}
 use borrow.Author.Needs.{needs}
 use native.Mathlib.Omega.{arith}
 use lib.ListN.{length-set}
+use Rattle.plain.proofs.Numbered.{nth-at}
 use Rattle.failing.proofs.Counting.{counted-less, counted-last}
 use Rattle.failing.proofs.without_late_short.Statement.{statement}
 use Rattle.failing.proofs.without_late_short.Tie as tie
@@ -58,7 +60,7 @@ returns-2 c =
     let s = e .before .before in
     let h = s .before .pre .0 in
     let left = rw (s .count-place .ensures) at (e .if1 .left) in
-    (λ day ps qs counted more. rw (s .count-place .ensures) (counted-last day ps qs _ _ more _ _ counted (h .within) (h .below) (omega (arith, left)) _ (c .without-member .ensures)), simp length-set (h .places))
+    (λ day ps qs counted more. rw (s .count-place .ensures) (counted-last day ps qs _ _ more _ _ counted (h .within) (h .below) (omega (arith, left)) _ (rw (nth-at {A = ℕ} 0 _ _ (h .within .above)) (c .without-member .ensures))), simp length-set (h .places))
 
 pub without-late-short-spec : {M : Type 1} → statement M
 without-late-short-spec =

@@ -2,13 +2,13 @@
 use borrow.Author.Needs.{needs}
 use native.Mathlib.Omega.{arith}
 use Prim.Native.Nat.{_+_, _-_, _≤_}
-use mathlib.Core.Path.{refl, sym, _∙_}
+use mathlib.Core.Path.{_≡_, sym, _∙_}
 use mathlib.Core.Logic.{⊎-elim}
 use mathlib.Core.List.{List, _∷_}
-use lib.ListN.{length}
+use lib.ListN.{length, getD}
 use Rattle.register.specs.declared.Register.{Register}
 use Rattle.plain.specs.declared.Award.{Award}
-use Rattle.plain.specs.Book.{noAward}
+use Rattle.plain.specs.Book.{noAward, new, noPrice, nth}
 use Rattle.plain.specs.Charging.{Charge, awardFines}
 use Rattle.tables.specs.Tables.{Positions, positions, awards}
 use Rattle.tables.specs.declared.Prices.{Prices}
@@ -18,7 +18,7 @@ use Rattle.ledger.specs.Parts.{bookOf, awardFinesOf}
 use Rattle.ledger.specs.Tabled.{Accounted, Awarded}
 use Rattle.ledger.proofs.Posting.{Posting, PostingAt, ahead, credit-fits, debit-fits, posting-start, posting-one, place-none, place-some, place-end}
 use Rattle.ledger.proofs.Elements.{element, position-numbered, position-at}
-use Rattle.ledger.proofs.Fines.{award-free, award-fined}
+use Rattle.ledger.proofs.Fines.{class-read, latest-read, award-free, award-fined}
 use Rattle.ledger.proofs.post_award_fines.Statement.{statement}
 use Rattle.ledger.proofs.post_award_fines.Tie as tie
 
@@ -51,6 +51,12 @@ accounted p =
     let s = r .before .before .before in
     rw (p .row-at .ensures) (position-numbered (table s) (s .pre .positions-fit) Accounted _ (awarded-at r .position) (s .pre .accounted))
 
+class-of : (p : tie.After-row-at Inv-loop μ-loop) → let a = p .before .before .before .before .before .args in let s = p .row-at .result .security in getD (a .t7 .classes) (s - 1) 0 ≡ nth 0 (a .t7 .classes) s
+class-of p = class-read (p .before .before .before .before .before .args .t7 .classes) _ (accounted p .security .above)
+
+latest-of : (p : tie.After-row-at Inv-loop μ-loop) → let a = p .before .before .before .before .before .args in let s = p .row-at .result .security in getD (a .t6 .latest) (s - 1) noPrice .price ≡ nth noPrice (a .t6 .latest) s .price
+latest-of p = latest-read (p .before .before .before .before .before .args .t6 .latest) _ (accounted p .security .above)
+
 -- the award is fined: its charge is the next to be posted
 posting : (x : tie.After-award-fine Inv-loop μ-loop)
     → let p = x .before .before .before .before .before .before .before in
@@ -61,13 +67,14 @@ posting : (x : tie.After-award-fine Inv-loop μ-loop)
     Posting (s .args .ledger) (ahead f (s .args .awarded) (awardsOf (s .args .awards .now)) 0)
     (record { payer = r .award-at .result .offerer; payee = 0; cents = x .award-fine .result } ∷ ahead f (s .args .awarded) (awardsOf (s .args .awards .now)) (y .before .loop .i + 1))
     (y .before .loop .after)
+unfolding new
 posting x =
     let p = x .before .before .before .before .before .before .before in
     let r = p .before .before in
     let y = r .before in
     let s = y .before .before in
     place-some _ _ _ (long s) _ _ _ noAward _ (y .loop-test .taken)
-    (rw (← r .award-at .ensures) (award-fined _ (r .award-at .result) (p .row-at .result) _ _ (position-at (table s) _ (awarded-at r .position) ∙ sym (p .row-at .ensures)) refl (x .before .before .before .before .award-is-fined .ensures) _ _ _ (x .before .before .before .if1 .taken) refl (x .before .value-of .ensures) (x .award-fine .ensures)))
+    (rw (← r .award-at .ensures) (award-fined _ (r .award-at .result) (p .row-at .result) _ _ (position-at (table s) _ (awarded-at r .position) ∙ sym (p .row-at .ensures)) (latest-of p) (x .before .before .before .before .award-is-fined .ensures) _ _ _ (x .before .before .before .if1 .taken) (class-of p) (x .before .value-of .ensures) (x .award-fine .ensures)))
     (y .before .loop .inv .0)
 
 loop-holds : tie.Need-loop-holds Inv-loop μ-loop
@@ -94,11 +101,11 @@ sub-k c = omega (arith, accounted (c .before) .security .above)
 cast-k : tie.Need-cast-k Inv-loop μ-loop
 cast-k c = search needs
 
-mul-latest : tie.Need-mul-latest Inv-loop μ-loop
-mul-latest c = omega (arith, accounted (c .before) .security .below)
+mul-quoted : tie.Need-mul-quoted Inv-loop μ-loop
+mul-quoted c = omega (arith, accounted (c .before) .security .below)
 
-element-copy-out-latest : tie.Need-element-copy-out-latest Inv-loop μ-loop
-element-copy-out-latest c = omega (arith, accounted (c .before) .security .below)
+element-copy-out-quoted : tie.Need-element-copy-out-quoted Inv-loop μ-loop
+element-copy-out-quoted c = omega (arith, accounted (c .before) .security .below)
 
 award-is-fined-requires : tie.Need-award-is-fined-requires Inv-loop μ-loop
 award-is-fined-requires c κs = search needs
@@ -127,6 +134,7 @@ loop-less : tie.Need-loop-less Inv-loop μ-loop
 loop-less c = omega arith
 
 loop-again : tie.Need-loop-again Inv-loop μ-loop
+unfolding new
 loop-again c =
     let p = c .before .before .before .before in
     let r = p .before .before in
@@ -139,7 +147,7 @@ loop-again c =
       omega arith,
     ))
     (λ w. (
-      rw (w .1) (place-none _ _ _ (long s) _ _ _ noAward (y .loop-test .taken) (rw (← r .award-at .ensures) (award-free _ (r .award-at .result) (p .row-at .result) _ _ (position-at (table s) _ (awarded-at r .position) ∙ sym (p .row-at .ensures)) refl (c .before .award-is-fined .ensures) (w .0 .left))) (y .before .loop .inv .0)),
+      rw (w .1) (place-none _ _ _ (long s) _ _ _ noAward (y .loop-test .taken) (rw (← r .award-at .ensures) (award-free _ (r .award-at .result) (p .row-at .result) _ _ (position-at (table s) _ (awarded-at r .position) ∙ sym (p .row-at .ensures)) (latest-of p) (c .before .award-is-fined .ensures) (w .0 .left))) (y .before .loop .inv .0)),
       omega arith,
     ))
     (c .if1 .came)
@@ -161,8 +169,8 @@ post-award-fines-spec =
     row-at-requires
     sub-k
     cast-k
-    mul-latest
-    element-copy-out-latest
+    mul-quoted
+    element-copy-out-quoted
     award-is-fined-requires
     element-copy-out-class
     value-of-requires

@@ -4,7 +4,7 @@ use native.Mathlib.Omega.{arith}
 use Prim.Native.Nat.{_*_}
 use mathlib.Core.Path.{_≡_, _∙_}
 use Rattle.rules.specs.Charges.{cashFee}
-use Rattle.ledger.specs.Posts.{posted-append, room-first, room-then}
+use Rattle.ledger.proofs.Posts.{posted-append, room-first, room-then}
 use Rattle.ledger.proofs.post_cash.Statement.{statement}
 use Rattle.ledger.proofs.post_cash.Tie as tie
 

@@ -3,7 +3,7 @@ use native.Mathlib.Omega.{arith}
 use mathlib.Core.Path.{_≡_, _∙_}
 use mathlib.Core.Logic.{⊎-elim}
 use Rattle.plain.specs.Charging.{posted}
-use Rattle.ledger.specs.Posts.{posted-append, room-first, room-then}
+use Rattle.ledger.proofs.Posts.{posted-append, room-first, room-then}
 use Rattle.ledger.specs.Parts.{awardFinesOf, closeChargesOf}
 use Rattle.ledger.proofs.Fines.{none-fined}
 use Rattle.tables.specs.Lent.{positionTable, awardTable}

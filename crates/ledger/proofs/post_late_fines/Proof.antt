@@ -2,14 +2,14 @@
 use borrow.Author.Needs.{needs}
 use native.Mathlib.Omega.{arith}
 use Prim.Native.Nat.{_+_, _-_, _≤_}
-use mathlib.Core.Path.{refl}
+use mathlib.Core.Path.{_≡_}
 use mathlib.Core.Logic.{⊎-elim}
 use mathlib.Core.List.{List, _∷_}
-use lib.ListN.{length}
+use lib.ListN.{length, getD}
 use Rattle.laws.specs.declared.BusinessDay.{BusinessDay}
 use Rattle.register.specs.declared.Register.{Register}
 use Rattle.plain.specs.declared.Position.{Position}
-use Rattle.plain.specs.Book.{noPosition}
+use Rattle.plain.specs.Book.{noPosition, new, noPrice, nth}
 use Rattle.plain.specs.Charging.{Charge, lateFines}
 use Rattle.tables.specs.Tables.{Positions, positions}
 use Rattle.tables.specs.declared.Prices.{Prices}
@@ -19,7 +19,7 @@ use Rattle.ledger.specs.Parts.{bookOf, lateFinesOf}
 use Rattle.ledger.specs.Tabled.{Accounted}
 use Rattle.ledger.proofs.Posting.{Posting, PostingAt, ahead, credit-fits, debit-fits, posting-start, posting-one, place-none, place-some, place-end}
 use Rattle.ledger.proofs.Elements.{positions-long, position-has}
-use Rattle.ledger.proofs.Fines.{late-free, late-fined}
+use Rattle.ledger.proofs.Fines.{class-read, latest-read, late-free, late-fined}
 use Rattle.ledger.proofs.post_late_fines.Statement.{statement}
 use Rattle.ledger.proofs.post_late_fines.Tie as tie
 
@@ -42,6 +42,12 @@ accounted r =
     let s = y .before .before in
     rw (r .row-at .ensures) (position-has (positionTable (s .args .rows .now) (s .args .held)) (s .pre .positions-fit) Accounted _ (y .loop-test .taken) (s .pre .accounted))
 
+class-of : (r : tie.After-row-at Inv-loop μ-loop) → let a = r .before .before .before .args in let s = r .row-at .result .security in getD (a .t5 .classes) (s - 1) 0 ≡ nth 0 (a .t5 .classes) s
+class-of r = class-read (r .before .before .before .args .t5 .classes) _ (accounted r .security .above)
+
+latest-of : (r : tie.After-row-at Inv-loop μ-loop) → let a = r .before .before .before .args in let s = r .row-at .result .security in getD (a .t4 .latest) (s - 1) noPrice .price ≡ nth noPrice (a .t4 .latest) s .price
+latest-of r = latest-read (r .before .before .before .args .t4 .latest) _ (accounted r .security .above)
+
 -- the short is fined: its charge is the next to be posted
 posting : (x : tie.After-late-fine Inv-loop μ-loop)
     → let r = x .before .before .before .before .before .before .before in
@@ -51,11 +57,12 @@ posting : (x : tie.After-late-fine Inv-loop μ-loop)
     Posting (a .ledger) (ahead f (a .held) (rowsOf (a .rows .now)) 0)
     (record { payer = r .row-at .result .member; payee = 0; cents = x .late-fine .result } ∷ ahead f (a .held) (rowsOf (a .rows .now)) (y .before .loop .i + 1))
     (y .before .loop .after)
+unfolding new
 posting x =
     let r = x .before .before .before .before .before .before .before in
     let y = r .before in
     place-some _ _ _ (fits (y .before .before)) _ _ _ noPosition _ (y .loop-test .taken)
-    (rw (← r .row-at .ensures) (late-fined _ (r .row-at .result) _ _ _ refl refl (x .before .before .before .short-is-fined .ensures) _ _ (x .before .before .if1 .taken) (x .before .value-of .ensures) (x .late-fine .ensures)))
+    (rw (← r .row-at .ensures) (late-fined _ (r .row-at .result) _ _ _ (class-of r) (latest-of r) (x .before .before .before .short-is-fined .ensures) _ _ (x .before .before .if1 .taken) (x .before .value-of .ensures) (x .late-fine .ensures)))
     (y .before .loop .inv .0)
 
 loop-holds : tie.Need-loop-holds Inv-loop μ-loop
@@ -74,11 +81,11 @@ cast-k c = search needs
 element-copy-out-class : tie.Need-element-copy-out-class Inv-loop μ-loop
 element-copy-out-class c = omega (arith, accounted (c .before) .security .below)
 
-mul-latest : tie.Need-mul-latest Inv-loop μ-loop
-mul-latest c = omega (arith, accounted (c .before .before) .security .below)
+mul-quoted : tie.Need-mul-quoted Inv-loop μ-loop
+mul-quoted c = omega (arith, accounted (c .before .before) .security .below)
 
-element-copy-out-latest : tie.Need-element-copy-out-latest Inv-loop μ-loop
-element-copy-out-latest c = omega (arith, accounted (c .before .before) .security .below)
+element-copy-out-quoted : tie.Need-element-copy-out-quoted Inv-loop μ-loop
+element-copy-out-quoted c = omega (arith, accounted (c .before .before) .security .below)
 
 short-is-fined-requires : tie.Need-short-is-fined-requires Inv-loop μ-loop
 short-is-fined-requires c κs = search needs
@@ -104,6 +111,7 @@ loop-less : tie.Need-loop-less Inv-loop μ-loop
 loop-less c = omega arith
 
 loop-again : tie.Need-loop-again Inv-loop μ-loop
+unfolding new
 loop-again c =
     let r = c .before .before .before .before .before in
     let y = r .before in
@@ -114,7 +122,7 @@ loop-again c =
       omega arith,
     ))
     (λ w. (
-      rw (w .1) (place-none _ _ _ (fits (y .before .before)) _ _ _ noPosition (y .loop-test .taken) (rw (← r .row-at .ensures) (late-free _ (r .row-at .result) _ _ _ refl refl (c .before .short-is-fined .ensures) (w .0 .left))) (y .before .loop .inv .0)),
+      rw (w .1) (place-none _ _ _ (fits (y .before .before)) _ _ _ noPosition (y .loop-test .taken) (rw (← r .row-at .ensures) (late-free _ (r .row-at .result) _ _ _ (class-of r) (latest-of r) (c .before .short-is-fined .ensures) (w .0 .left))) (y .before .loop .inv .0)),
       omega arith,
     ))
     (c .if1 .came)
@@ -134,8 +142,8 @@ post-late-fines-spec =
     sub-k
     cast-k
     element-copy-out-class
-    mul-latest
-    element-copy-out-latest
+    mul-quoted
+    element-copy-out-quoted
     short-is-fined-requires
     value-of-requires
     late-fine-requires

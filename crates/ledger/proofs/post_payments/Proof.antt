@@ -12,7 +12,7 @@ use Rattle.tables.specs.Tables.{positions, pieces}
 use Rattle.rows.specs.Rows.{rowsOf}
 use Rattle.pieces.specs.Sheet.{piecesOf}
 use Rattle.tables.specs.Lent.{positionTable}
-use Rattle.ledger.specs.Parts.{pricedBy}
+use Rattle.plain.specs.Charging.{pricedBy}
 use Rattle.ledger.specs.Tabled.{Accounted, Paired}
 use Rattle.ledger.proofs.Posting.{Posting, PostingAt, ahead, credit-fits, debit-fits, posting-start, posting-one, place-some, place-end}
 use Rattle.ledger.proofs.Elements.{element, position-numbered}

@@ -7,12 +7,12 @@ use mathlib.Core.Logic.{⊎-elim}
 use mathlib.Core.List.{List, _++_}
 use lib.ListN.{length}
 use Rattle.plain.specs.declared.Position.{Position}
-use Rattle.plain.proofs.Netted.{KeyFits}
+use Rattle.plain.specs.Invariants.{KeyFits}
 use Rattle.rows.proofs.Cells.{length-rows}
 use Rattle.netting.specs.declared.Side.{Side}
 use Rattle.netting.specs.declared.Side.the-variants.{Sale, Purchase}
 use Rattle.netting.specs.Gathering.{totalsOf, keyFor, placeOf}
-use Rattle.netting.specs.Members.{netOf}
+use Rattle.netting.specs.Members.{netFrom}
 use Rattle.rows.specs.Rows.{rowsOf}
 use Rattle.netting.proofs.Places.{place-fits}
 use Rattle.netting.proofs.Filling.{Filling, next-place, filling-more}
@@ -42,7 +42,7 @@ module _ (x : tie.After-total-at2 Inv-loop μ-loop) where
   abbrev reached : tie.At-loop Inv-loop μ-loop
   reached = x .before .before .before .before .before
 
-  next : (ps : List Position) → (let a = reached .before .args in netOf (a .day .0) (keyFor (a .member) (reached .loop .security)) (x .before .before .total-at .result) (x .total-at2 .result) ≡ ps
+  next : (ps : List Position) → (let a = reached .before .args in netFrom (a .day .0) (keyFor (a .member) (reached .loop .security)) (x .before .before .total-at .result) (x .total-at2 .result) ≡ ps
       → Filling (memberTable (a .day .0) (totalsOf (a .totals .now)) (a .member) (a .securities) (a .rows .now) (a .held)) (ps ++ memberFrom (a .day .0) (totalsOf (a .totals .now)) (a .member) (a .securities) (reached .loop .security + 1)) (reached .loop .n) (rowsOf (reached .loop .rows)))
   next ps e =
       member-next _ _ _ _ _ (x .before .before .before .before .loop-test .taken) _ _

@@ -22,7 +22,7 @@ blank-numbers-requires : tie.Need-blank-numbers-requires Inv-loop μ-loop
 blank-numbers-requires c κs = search needs
 
 loop-holds : tie.Need-loop-holds Inv-loop μ-loop
-loop-holds c = (omega arith, c .blank-numbers .ensures, (λ m. refl))
+loop-holds c = (omega arith, c .blank-numbers .ensures .1, (λ m. refl))
 
 mul-piece : tie.Need-mul-piece Inv-loop μ-loop
 mul-piece c = omega arith

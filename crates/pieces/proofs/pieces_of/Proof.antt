@@ -20,7 +20,7 @@ blank-pieces-requires : tie.Need-blank-pieces-requires Inv-loop μ-loop
 blank-pieces-requires c κs = search needs
 
 loop-holds : tie.Need-loop-holds Inv-loop μ-loop
-loop-holds c = (omega arith, c .blank-pieces .ensures, refl)
+loop-holds c = (omega arith, c .blank-pieces .ensures .1, refl)
 
 piece-at-requires : tie.Need-piece-at-requires Inv-loop μ-loop
 piece-at-requires c κs = omega arith

@@ -1,11 +1,12 @@
--- `player::print_events` meets its contract. The loop's invariant: the events that are left decide the last book.
+-- `player::print_events` meets its contract. The loop's invariant: the events before the next are played.
 use Prim.Native.Nat.{_-_}
 use native.Mathlib.Omega.{arith}
 use mathlib.Core.Path.{_≡_, refl, sym, _∙_}
 use lib.ListN.{length}
 use borrow.Author.Needs.{needs}
 use Rattle.calls.specs.View.{numbers}
-use Rattle.player.proofs.Pages.{Between, played-among, next-page, all-played}
+use Rattle.replay.proofs.Playing.{none-played}
+use Rattle.player.proofs.Pages.{Between, played-within, next-page, all-played}
 use Rattle.player.proofs.print_events.Statement.{statement}
 use Rattle.player.proofs.print_events.Tie as tie
 
@@ -27,21 +28,15 @@ cast-count c = omega arith
 loop-holds : tie.Need-loop-holds Inv-loop μ-loop
 loop-holds c =
     let s = c .before .before .before in
-    (record { long = s .pre .2; held = s .pre .0; place = omega arith; book = refl }, s .pre .1, refl)
+    (record { long = s .pre .2; place = omega arith; played' = none-played _ _ (s .pre .0) }, s .pre .1, refl)
 
 play-events-requires : tie.Need-play-events-requires Inv-loop μ-loop
 play-events-requires c κs =
     let k = c .before .before .before .before .before .before .before in
-    (k .loop .inv .0 .held, k .loop .inv .1)
+    (k .loop .inv .0 .played' .held, k .loop .inv .1)
 
-slice-reshare-prefix-write-all : tie.Need-slice-reshare-prefix-write-all Inv-loop μ-loop
-slice-reshare-prefix-write-all c = played-among _ _ _ _ _ _ _ _ (c .before .before .play-events .ensures .0) .0
-
-slice-aggregate-write-all : tie.Need-slice-aggregate-write-all Inv-loop μ-loop
-slice-aggregate-write-all c = played-among _ _ _ _ _ _ _ _ (c .before .before .before .play-events .ensures .0) .1
-
-write-all-requires : tie.Need-write-all-requires Inv-loop μ-loop
-write-all-requires c κs = search needs
+print-page-requires : tie.Need-print-page-requires Inv-loop μ-loop
+print-page-requires c κs = played-within _ _ _ _ _ _ _ _ (c .before .before .before .play-events .ensures .0)
 
 loop-less : tie.Need-loop-less Inv-loop μ-loop
 loop-less c =
@@ -75,9 +70,7 @@ print-events-spec =
     cast-count
     loop-holds
     play-events-requires
-    slice-reshare-prefix-write-all
-    slice-aggregate-write-all
-    write-all-requires
+    print-page-requires
     loop-less
     loop-again
     same-length

@@ -33,8 +33,8 @@ print-events-requires c κs =
     let r = t .before in
     let g = r .before in
     let s = g .before .before in (
-      s .pre _ (record { rows = r .blank-rows .ensures; trades = t .blank-trades .ensures; awards = a .blank-awards .ensures; counts = k .no-counts .ensures }),
-      n .blank-numbers .ensures,
+      s .pre _ (record { rows = r .blank-rows .ensures .1; trades = t .blank-trades .ensures .1; awards = a .blank-awards .ensures .1; counts = k .no-counts .ensures }),
+      n .blank-numbers .ensures .1,
       g .blank-page .ensures,
     )
 

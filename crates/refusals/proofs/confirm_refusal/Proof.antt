@@ -1,17 +1,13 @@
--- `refusals::confirm_refusal` meets its contract.
-use mathlib.Core.Path.{refl}
-use Rattle.laws.specs.Refusals.{here, past}
-use Rattle.refusals.specs.Discharging.{confirmReasons, confirmRefusal}
+-- `refusals::confirm_refusal` meets its contract: at each return the tests that were passed, and the one that was not, decide the list.
+use Rattle.plain.specs.Refusals.{confirmReasons}
+use Rattle.refusals.proofs.Passed.{refusing}
 use Rattle.refusals.proofs.confirm_refusal.Statement.{statement}
 use Rattle.refusals.proofs.confirm_refusal.Tie as tie
 
-returns : tie.Need-returns
-unfolding confirmRefusal confirmReasons
-returns c = here 25 _ (c .if1 .taken)
-
-returns-2 : tie.Need-returns-2
-unfolding confirmRefusal confirmReasons
-returns-2 c = past 25 (c .if1 .left) refl
-
 pub confirm-refusal-spec : {M : Type 1} → statement M
-confirm-refusal-spec = tie.close (tie.spec returns returns-2)
+unfolding confirmReasons
+confirm-refusal-spec =
+    tie.close
+    (tie.spec
+    (λ c. search refusing depth 20)
+    (λ c. search refusing depth 20))

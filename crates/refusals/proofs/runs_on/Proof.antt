@@ -6,7 +6,7 @@ use mathlib.Core.Logic.{_≢_}
 use mathlib.Core.Bool.{Bool, false, _&&_}
 use lib.Dec.{eqb}
 use borrow.Author.Tests.{lt-ltb}
-use Rattle.refusals.specs.Auctions.{runsOn}
+use Rattle.plain.specs.Refusals.{runsOn}
 use Rattle.refusals.proofs.runs_on.Statement.{statement}
 use Rattle.refusals.proofs.runs_on.Tie as tie
 

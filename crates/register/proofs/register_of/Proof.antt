@@ -1,8 +1,9 @@
 -- `register::register_of` meets its contract.
 use Prim.Native.Nat.{_+_, _-_, _*_}
+use native.Mathlib.Omega.{arith}
 use mathlib.Core.Path.{_∙_}
 use denote.Ref.{now}
-use lib.ListN.{take, drop}
+use lib.ListN.{take, drop, length-take}
 use Rattle.register.proofs.Size.{copied, made}
 use borrow.Author.Needs.{needs}
 use Rattle.register.proofs.register_of.Statement.{statement}
@@ -69,8 +70,8 @@ returns c =
     let bytes = now (k .before .before .args .bytes) in
     let n = k .count .result in
     made bytes (u .copy .last .0) (c .before .copy2 .last .0) n (k .count .ensures)
-    (u .copy .ensures ∙ copied 32 (take (2 + n - 2) (drop 2 bytes)) (u .before .before .before .zeros-32 .result) (u .before .before .before .zeros-32 .ensures))
-    (c .before .copy2 .ensures ∙ copied 384 (take (2 + n + 12 * n - (2 + n)) (drop (2 + n) bytes)) (c .before .before .before .before .zeros-384 .result) (c .before .before .before .before .zeros-384 .ensures))
+    (u .copy .ensures ∙ copied 32 (take (2 + n - 2) (drop 2 bytes)) (u .before .before .before .zeros-32 .result) (omega (arith, length-take (2 + n - 2) (drop 2 bytes), k .before .before .pre .high, k .count .ensures)) (u .before .before .before .zeros-32 .ensures))
+    (c .before .copy2 .ensures ∙ copied 384 (take (2 + n + 12 * n - (2 + n)) (drop (2 + n) bytes)) (c .before .before .before .before .zeros-384 .result) (omega (arith, length-take (2 + n + 12 * n - (2 + n)) (drop (2 + n) bytes), k .before .before .pre .high, k .count .ensures)) (c .before .before .before .before .zeros-384 .ensures))
 
 pub register-of-spec : {M : Type 1} → statement M
 register-of-spec =

@@ -1,13 +1,17 @@
 -- `replay::played` meets its contract.
-use mathlib.Core.Path.{ap, _∙_}
-use lib.ListN.{take}
+use native.Mathlib.Omega.{arith}
+use mathlib.Core.Path.{ap₂, sym, _∙_, subst}
+use mathlib.Core.List.{List}
+use lib.Seq.{take-all}
 use denote.Ref.{now}
 use borrow.Author.Needs.{needs}
+use Rattle.events.specs.declared.Event.{Event}
 use Rattle.events.specs.File.{eventsOf}
 use Rattle.plain.specs.Book as plain
-use Rattle.plain.specs.Histories.{run}
+use Rattle.plain.specs.Histories.{run, callsOf}
 use Rattle.calls.specs.View.{Numbers, numbers, Blank}
-use Rattle.replay.specs.Replay.{callsOf, afterCloses}
+use Rattle.book.specs.declared.Book.{Book}
+use Rattle.history.specs.Runs.{standOf, RunsTo}
 use Rattle.replay.proofs.played.Statement.{statement}
 use Rattle.replay.proofs.played.Tie as tie
 
@@ -24,7 +28,7 @@ blank n =
     let k = n .before in
     let a = k .before in
     let t = a .before in
-    record { rows = t .before .blank-rows .ensures; trades = t .blank-trades .ensures; awards = a .blank-awards .ensures; counts = k .no-counts .ensures }
+    record { rows = t .before .blank-rows .ensures .1; trades = t .blank-trades .ensures .1; awards = a .blank-awards .ensures .1; counts = k .no-counts .ensures }
 
 abbrev start : tie.After-blank-numbers → tie.Start
 start n = n .before .before .before .before .before .before
@@ -44,16 +48,17 @@ no-counts-requires c κs = search needs
 blank-numbers-requires : tie.Need-blank-numbers-requires
 blank-numbers-requires c κs = search needs
 
-closed-requires : tie.Need-closed-requires
-closed-requires c κs =
-    let n = c .before .before .before .before in
-    start n .pre .0 (tables n) (blank n)
+events-in-requires : tie.Need-events-in-requires
+events-in-requires c κs = search needs
+
+cast-count : tie.Need-cast-count
+cast-count c = search needs
 
 play-requires : tie.Need-play-requires
 play-requires c κs =
-    let l = c .before .before .before .before .before in
-    let n = l .before .before .before .before .before in
-    (l .closed .ensures .0, n .blank-numbers .ensures, start n .pre .1)
+    let e = c .before .before .before .before .before in
+    let n = e .before in
+    (start n .pre (tables n) (blank n), n .blank-numbers .ensures .1, omega (arith, e .events-in .ensures))
 
 made-of-requires : tie.Need-made-of-requires
 made-of-requires c κs = c .play .ensures .0 .held
@@ -61,14 +66,16 @@ made-of-requires c κs = c .play .ensures .0 .held
 returns : tie.Need-returns
 returns c =
     let p = c .before in
-    let l = p .before .before .before .before .before .before in
-    let n = l .before .before .before .before .before in (
+    let e = p .before .before .before .before .before .before in
+    let n = e .before in
+    let events = eventsOf (now (start n .args .file)) in
+    let all = take-all (e .events-in .result) events (omega (arith, e .events-in .ensures)) in (
       c .made-of .ensures .1,
       λ b opens.
-          let s = start n in
           c .made-of .ensures .2
           ∙ p .play .ensures .0 .book
-          ∙ ap (λ (x : plain.Book). run x (callsOf (take (s .args .stop) (eventsOf (now (s .args .file)))))) (l .closed .ensures .1 ∙ ap (λ (x : plain.Book). afterCloses x (s .args .closes)) (opens (tables n) (blank n))),
+          ∙ ap₂ (λ (x : plain.Book) (es : List Event). run x (callsOf es)) (opens (tables n) (blank n)) all,
+      (tables n, blank n, subst (λ (b : Book). RunsTo (record { core = start n .args .core; numbers = tables n }) (callsOf events) (standOf b)) (sym (c .made-of .ensures .0)) (rw all at (p .play .ensures .0 .runs))),
     )
 
 pub played-spec : {M : Type 1} → statement M
@@ -80,7 +87,8 @@ played-spec =
     blank-awards-requires
     no-counts-requires
     blank-numbers-requires
-    closed-requires
+    events-in-requires
+    cast-count
     play-requires
     made-of-requires
     returns)

@@ -1,18 +1,16 @@
 -- `report::account_lines` meets its contract. The invariant: the lines of the accounts passed are put, in at most 80 bytes each.
 use native.Mathlib.Omega.{arith}
 use Prim.Native.Nat.{_+_, _-_, _*_, _≤_, _<_}
-use mathlib.Core.Path.{_≡_, ap}
-use lib.ListN.{length, take, getD}
-use Rattle.laws.specs.Lists.{each}
-use Rattle.report.specs.Pages.{Put, put-none, none-wrote, put-wrote, put-text, wrote-text}
-use Rattle.report.proofs.Blocks.{kept-length, room, wrote-next}
+use lib.ListN.{length, getD}
+use Rattle.report.specs.Pages.{none-wrote, wrote-text}
+use Rattle.report.proofs.Blocks.{Lined, none-lined, lined-room, lined-next, lined-length, all-lined}
 use Rattle.report.specs.Lines.{LINE, accounts, accountLines}
 use Rattle.report.proofs.Amounts.{accountText, account-count, account-here, accounts-all}
 use Rattle.report.proofs.account_lines.Statement.{statement}
 use Rattle.report.proofs.account_lines.Tie as tie
 
 abbrev Inv-loop : tie.InvT-loop
-Inv-loop page₀ ledger at₀ k₀ page at k = (k ≤ 64) × (at ≤ 80 * k) × Put (each (accountText ledger) (take k accounts)) page₀ page at
+Inv-loop page₀ ledger at₀ k₀ page at k = Lined (accountText ledger) accounts 64 page₀ page at k
 
 abbrev μ-loop : tie.MeasureT-loop
 μ-loop page₀ ledger at₀ k₀ page at k = 64 - k
@@ -26,7 +24,7 @@ returns c =
     none-wrote (LINE * 64) (accountLines (a .t2)) (a .page .now) (c .if1 .taken)
 
 loop-holds : tie.Need-loop-holds Inv-loop μ-loop
-loop-holds c = (omega arith, omega arith, put-none _)
+loop-holds c = none-lined _ _ _ _
 
 mul-credit : tie.Need-mul-credit Inv-loop μ-loop
 mul-credit c = omega arith
@@ -41,12 +39,8 @@ element-copy-out-debit : tie.Need-element-copy-out-debit Inv-loop μ-loop
 element-copy-out-debit c = omega arith
 
 -- the next line has room where the others end
-free : (c : tie.In-loop Inv-loop μ-loop) → c .before .loop .at + 80 ≤ length (c .before .loop .page)
-free c =
-    let k = c .before .loop in
-    let e = c .before .before in
-    let a = e .before .before .args in
-    room (each (accountText (a .t2)) (take (k .k) accounts)) (a .page .now) (k .page) (k .at) (k .k) 64 (k .inv .2) (k .inv .1) (c .loop-test .taken) (e .if1 .left)
+free : (c : tie.In-loop Inv-loop μ-loop) → c .before .loop .at + LINE ≤ length (c .before .loop .page)
+free c = lined-room _ _ _ _ (c .before .before .if1 .left) _ _ _ (c .before .loop .inv) (c .loop-test .taken)
 
 sub-balance-line : tie.Need-sub-balance-line Inv-loop μ-loop
 sub-balance-line c = omega (arith, free (c .before .before))
@@ -64,7 +58,9 @@ balance-line-requires : tie.Need-balance-line-requires Inv-loop μ-loop
 balance-line-requires c κs = tt
 
 add-at : tie.Need-add-at Inv-loop μ-loop
-add-at c = omega (arith, c .before .before .balance-line .ensures .most)
+add-at c =
+    let n = c .before .before .before .before .before .before in
+    omega (arith, n .before .loop .inv .few, n .loop-test .taken, c .before .before .balance-line .ensures .most)
 
 add-k : tie.Need-add-k Inv-loop μ-loop
 add-k c = omega arith
@@ -79,30 +75,19 @@ loop-again c =
     let e = n .before .before in
     let a = e .before .before .args in
     let d = c .before .before .balance-line in
-    let i : k .k < length accounts = omega (arith, account-count, n .loop-test .taken) in (
-      omega arith,
-      omega (arith, d .ensures .most),
-      wrote-next (accountText (a .t2)) accounts 0 (a .page .now) (k .page) (d .last .0) (k .at) (d .result) (k .k) 64 (n .loop-test .taken) i (e .if1 .left) (k .inv .1) (k .inv .2)
-          (wrote-text 80 _ (accountText (a .t2) (getD accounts (k .k) 0)) _ (d .last .0) (d .result) (account-here (a .t2) (k .k) (n .loop-test .taken)) (d .ensures)),
-    )
-
--- the page keeps its length
-same : (c : tie.After-loop Inv-loop μ-loop) → length (c .before .loop .page) ≡ length (c .before .before .before .before .args .page .now)
-same c =
-    let k = c .before .loop in
-    let a = c .before .before .before .before .args in
-    kept-length (each (accountText (a .t2)) (take (k .k) accounts)) (a .page .now) (k .page) (k .at) (k .inv .2) (omega (arith, k .inv .2 .bytes))
+    let i : k .k < length accounts = omega (arith, account-count, n .loop-test .taken) in
+    lined-next _ _ _ _ (e .if1 .left) _ _ _ (k .inv) 0 _ _ (n .loop-test .taken) i
+    (wrote-text LINE _ (accountText (a .t2) (getD accounts (k .k) 0)) _ (d .last .0) (d .result) (account-here (a .t2) (k .k) (n .loop-test .taken)) (d .ensures))
 
 same-length : tie.Need-same-length Inv-loop μ-loop
-same-length c = same c
+same-length c = lined-length _ _ _ _ (c .before .before .if1 .left) _ _ _ (c .before .loop .inv)
 
 returns-2 : tie.Need-returns-2 Inv-loop μ-loop
 returns-2 c =
     let k = c .before .loop in
     let e = c .before .before in
     let a = e .before .before .args in
-    let text : each (accountText (a .t2)) (take (k .k) accounts) ≡ accountLines (a .t2) = accounts-all (a .t2) (k .k) (c .loop-test .left) in
-    put-wrote (80 * 64) (accountLines (a .t2)) (a .page .now) (k .page) (k .at) (e .if1 .left) (omega (arith, ap length text, k .inv .2 .bytes)) (put-text _ (accountLines (a .t2)) (a .page .now) (k .page) (k .at) text (k .inv .2))
+    all-lined _ _ _ _ (e .if1 .left) _ _ _ (k .inv) (accountLines (a .t2)) (accounts-all (a .t2) (k .k) (c .loop-test .left))
 
 pub account-lines-spec : {M : Type 1} → statement M
 account-lines-spec =

@@ -1,34 +1,25 @@
 -- `report::event_line` meets its contract: the line is no longer than a page has room for.
-use native.Mathlib.Omega.{arith}
-use mathlib.Core.List.{[], _∷_}
-use Rattle.report.specs.Lines.{LINE, eventLine}
-use Rattle.report.specs.Lengths.{length-numbers, most8, most32, event-most}
-use Rattle.report.specs.Pages.{none-wrote, put-wrote}
+use Rattle.report.specs.Lines.{eventLine}
+use Rattle.report.specs.Lengths.{event-most}
 use borrow.Author.Needs.{needs}
 use Rattle.report.proofs.event_line.Statement.{statement}
 use Rattle.report.proofs.event_line.Tie as tie
 
-returns : tie.Need-returns
-returns c =
-    let a = c .before .before .args in
-    none-wrote LINE (eventLine (a .number) (a .refusal) (a .quantity)) (a .page .now) (c .if1 .taken)
+slice-aggregate-put-line : tie.Need-slice-aggregate-put-line
+slice-aggregate-put-line c = search needs
 
 put-line-requires : tie.Need-put-line-requires
+unfolding eventLine
 put-line-requires c κs =
     let s = c .before .before .before in
-    let e = length-numbers (s .args .number ∷ s .args .refusal ∷ s .args .quantity ∷ []) in
-    (omega arith, omega (arith, most32 (s .args .number) (s .fits .number .fits), most8 (s .args .refusal) (s .fits .refusal .fits), most32 (s .args .quantity) (s .fits .quantity .fits), c .before .if1 .left))
+    event-most (s .args .number) (s .args .refusal) (s .args .quantity) (s .fits .number .fits) (s .fits .refusal .fits) (s .fits .quantity .fits)
 
 same-length : tie.Need-same-length
 same-length c = search needs
 
-returns-2 : tie.Need-returns-2
+returns : tie.Need-returns
 unfolding eventLine
-returns-2 c =
-    let s = c .before .before .before .before .before .before in
-    let a = s .args in
-    let d = c .before .before .put-line in
-    put-wrote LINE (eventLine (a .number) (a .refusal) (a .quantity)) (a .page .now) (d .last .0) (d .result) (c .before .before .before .before .if1 .left) (event-most (a .number) (a .refusal) (a .quantity) (s .fits .number .fits) (s .fits .refusal .fits) (s .fits .quantity .fits)) (d .ensures)
+returns c = c .before .before .put-line .ensures
 
 pub event-line-spec : {M : Type 1} → statement M
-event-line-spec = tie.close (tie.spec returns put-line-requires same-length returns-2)
+event-line-spec = tie.close (tie.spec slice-aggregate-put-line put-line-requires same-length returns)

@@ -10,9 +10,9 @@ use Rattle.plain.specs.declared.Manner.the-variants.{Delivered}
 use Rattle.plain.specs.declared.Piece.{Piece}
 use Rattle.pieces.specs.Sheet.{piecesOf, unpriced}
 use Rattle.pieces.proofs.Cells.{length-pieces, in-manner}
-use Rattle.report.specs.Lines.{pieceLine, pieceLines, lines-of-any-manner}
-use Rattle.report.specs.Pages.{Put, put-none, none-wrote, put-wrote, put-text}
-use Rattle.report.proofs.Blocks.{kept-length, room, wrote-next, take-map, take-min}
+use Rattle.report.specs.Lines.{LINE, pieceLine, pieceLines, lines-of-any-manner}
+use Rattle.report.specs.Pages.{none-wrote}
+use Rattle.report.proofs.Blocks.{Lined, none-lined, lined-room, lined-next, lined-length, all-lined, take-map, take-min}
 use Rattle.report.proofs.piece_lines.Statement.{statement}
 use Rattle.report.proofs.piece_lines.Tie as tie
 
@@ -25,7 +25,7 @@ any-manner : (m : Manner) (count : ℕ) (sheet : List ℕ) → pieceLines (take 
 any-manner m count sheet = sym (rw (in-manner m Delivered sheet, take-map, lines-of-any-manner))
 
 abbrev Inv-loop : tie.InvT-loop
-Inv-loop page₀ sheet count stop at₀ i₀ page at i = (i ≤ stop) × (at ≤ 80 * i) × Put (each pieceLine (take i (read sheet))) page₀ page at
+Inv-loop page₀ sheet count stop at₀ i₀ page at i = Lined pieceLine (read sheet) stop page₀ page at i
 
 abbrev μ-loop : tie.MeasureT-loop
 μ-loop page₀ sheet count stop at₀ i₀ page at i = stop - i
@@ -42,18 +42,14 @@ returns c =
     λ m. none-wrote (80 * min (a .count) 1024) (pieceLines (take (a .count) (piecesOf m (a .sheet .now)))) (a .page .now) (omega (arith, c .if1 .taken))
 
 loop-holds : tie.Need-loop-holds Inv-loop μ-loop
-loop-holds c = (omega arith, omega arith, put-none _)
+loop-holds c = none-lined _ _ _ _
 
 piece-at-requires : tie.Need-piece-at-requires Inv-loop μ-loop
 piece-at-requires c κs = omega (arith, c .before .before .before .at-most .ensures)
 
 -- the next line has room where the others end
-free : (c : tie.In-loop Inv-loop μ-loop) → c .before .loop .at + 80 ≤ length (c .before .loop .page)
-free c =
-    let k = c .before .loop in
-    let e = c .before .before in
-    let a = e .before .before .before .args in
-    room (each pieceLine (take (k .i) (read (a .sheet .now)))) (a .page .now) (k .page) (k .at) (k .i) (e .before .at-most .result) (k .inv .2) (k .inv .1) (c .loop-test .taken) (e .if1 .left)
+free : (c : tie.In-loop Inv-loop μ-loop) → c .before .loop .at + LINE ≤ length (c .before .loop .page)
+free c = lined-room _ _ _ _ (c .before .before .if1 .left) _ _ _ (c .before .loop .inv) (c .loop-test .taken)
 
 sub-piece-line : tie.Need-sub-piece-line Inv-loop μ-loop
 sub-piece-line c = omega (arith, free (c .before))
@@ -68,7 +64,9 @@ piece-line-requires : tie.Need-piece-line-requires Inv-loop μ-loop
 piece-line-requires c κs = tt
 
 add-at : tie.Need-add-at Inv-loop μ-loop
-add-at c = omega (arith, c .before .before .piece-line .ensures .most)
+add-at c =
+    let n = c .before .before .before .before .before in
+    omega (arith, n .before .loop .inv .few, n .loop-test .taken, n .before .before .before .at-most .ensures, c .before .before .piece-line .ensures .most)
 
 add-i : tie.Need-add-i Inv-loop μ-loop
 add-i c = omega arith
@@ -87,17 +85,10 @@ loop-again c =
     let all = read (a .sheet .now) in
     let i : k .i < length all = omega (arith, length-pieces Delivered (a .sheet .now), e .before .at-most .ensures) in
     let wrote = rw (r .piece-at .ensures) at (d .ensures) in
-    (omega arith, omega (arith, d .ensures .most), wrote-next pieceLine all (unpriced Delivered 0 0 0) (a .page .now) (k .page) (d .last .0) (k .at) (d .result) (k .i) (e .before .at-most .result) (n .loop-test .taken) i (e .if1 .left) (k .inv .1) (k .inv .2) wrote)
-
--- the page keeps its length
-same : (c : tie.After-loop Inv-loop μ-loop) → length (c .before .loop .page) ≡ length (c .before .before .before .before .before .args .page .now)
-same c =
-    let k = c .before .loop in
-    let a = c .before .before .before .before .before .args in
-    kept-length (each pieceLine (take (k .i) (read (a .sheet .now)))) (a .page .now) (k .page) (k .at) (k .inv .2) (omega (arith, k .inv .2 .bytes))
+    lined-next _ _ _ _ (e .if1 .left) _ _ _ (k .inv) (unpriced Delivered 0 0 0) _ _ (n .loop-test .taken) i wrote
 
 same-length : tie.Need-same-length Inv-loop μ-loop
-same-length c = same c
+same-length c = lined-length _ _ _ _ (c .before .before .if1 .left) _ _ _ (c .before .loop .inv)
 
 returns-2 : tie.Need-returns-2 Inv-loop μ-loop
 unfolding pieceLines
@@ -106,12 +97,10 @@ returns-2 c =
     let e = c .before .before in
     let a = e .before .before .before .args in
     let sheet = a .sheet .now in
-    let all : k .i ≡ min (a .count) 1024 = omega (arith, e .before .at-most .ensures) in
+    let all : k .i ≡ min (a .count) 1024 = omega (arith, k .inv .within, c .loop-test .left, e .before .at-most .ensures) in
     let some : each pieceLine (take (k .i) (read sheet)) ≡ pieceLines (take (a .count) (read sheet)) = ap (each pieceLine) (ap (λ (n : ℕ). take n (read sheet)) all ∙ take-min (read sheet) (a .count) 1024 (length-pieces Delivered sheet)) in
     λ m.
-    let lines = pieceLines (take (a .count) (piecesOf m sheet)) in
-    let text : each pieceLine (take (k .i) (read sheet)) ≡ lines = some ∙ any-manner m (a .count) sheet in
-    put-wrote (80 * min (a .count) 1024) lines (a .page .now) (k .page) (k .at) (omega (arith, e .if1 .left)) (omega (arith, ap length text, k .inv .2 .bytes)) (put-text (each pieceLine (take (k .i) (read sheet))) lines (a .page .now) (k .page) (k .at) text (k .inv .2))
+    rw (← e .before .at-most .ensures) (all-lined _ _ _ _ (e .if1 .left) _ _ _ (k .inv) (pieceLines (take (a .count) (piecesOf m sheet))) (some ∙ any-manner m (a .count) sheet))
 
 pub piece-lines-spec : {M : Type 1} → statement M
 piece-lines-spec =

@@ -6,8 +6,8 @@ use mathlib.Core.List.{List}
 use lib.ListN.{length, take, getD}
 use Rattle.laws.specs.Lists.{each, range}
 use Rattle.laws.specs.Listed.{length-range}
-use Rattle.report.specs.Pages.{Put, put-none, none-wrote, put-wrote, put-text, wrote-text}
-use Rattle.report.proofs.Blocks.{kept-length, room, wrote-next, positionText, position-here, positions-all}
+use Rattle.report.specs.Pages.{none-wrote, wrote-text}
+use Rattle.report.proofs.Blocks.{Lined, none-lined, lined-room, lined-next, lined-length, all-lined, positionText, position-here, positions-all}
 use Rattle.rows.proofs.Cells.{length-rows}
 use Rattle.tables.specs.Tables.{PositionsFit, positions}
 use Rattle.tables.specs.Lent.{positionTable}
@@ -15,15 +15,12 @@ use Rattle.report.specs.Lines.{LINE, positionLine, positionLines}
 use Rattle.report.proofs.position_lines.Statement.{statement}
 use Rattle.report.proofs.position_lines.Tie as tie
 
--- the line of each position, and those of the first i
+-- the line of each position
 abbrev lineOf : List ℕ → ℕ → ℕ → List ℕ
 lineOf rows count = positionText (positions (positionTable rows count))
 
-abbrev linesTo : List ℕ → ℕ → ℕ → List ℕ
-linesTo rows count i = each (lineOf rows count) (take i (range 1 count))
-
 abbrev Inv-loop : tie.InvT-loop
-Inv-loop page₀ rows count at₀ i₀ page at i = (i ≤ count) × (at ≤ 80 * i) × Put (linesTo rows count i) page₀ page at
+Inv-loop page₀ rows count at₀ i₀ page at i = Lined (lineOf rows count) (range 1 count) count page₀ page at i
 
 abbrev μ-loop : tie.MeasureT-loop
 μ-loop page₀ rows count at₀ i₀ page at i = count - i
@@ -37,18 +34,14 @@ returns c =
     none-wrote (LINE * a .count) (positionLines (positions (positionTable (a .rows .now) (a .count)))) (a .page .now) (c .if1 .taken)
 
 loop-holds : tie.Need-loop-holds Inv-loop μ-loop
-loop-holds c = (omega arith, omega arith, put-none _)
+loop-holds c = none-lined _ _ _ _
 
 row-at-requires : tie.Need-row-at-requires Inv-loop μ-loop
 row-at-requires c κs = omega arith
 
 -- the next line has room where the others end
-free : (c : tie.In-loop Inv-loop μ-loop) → c .before .loop .at + 80 ≤ length (c .before .loop .page)
-free c =
-    let k = c .before .loop in
-    let e = c .before .before in
-    let a = e .before .before .args in
-    room (linesTo (a .rows .now) (a .count) (k .i)) (a .page .now) (k .page) (k .at) (k .i) (a .count) (k .inv .2) (k .inv .1) (c .loop-test .taken) (e .if1 .left)
+free : (c : tie.In-loop Inv-loop μ-loop) → c .before .loop .at + LINE ≤ length (c .before .loop .page)
+free c = lined-room _ _ _ _ (c .before .before .if1 .left) _ _ _ (c .before .loop .inv) (c .loop-test .taken)
 
 sub-position-line : tie.Need-sub-position-line Inv-loop μ-loop
 sub-position-line c = omega (arith, free (c .before))
@@ -69,7 +62,9 @@ position-line-requires : tie.Need-position-line-requires Inv-loop μ-loop
 position-line-requires c κs = tt
 
 add-at : tie.Need-add-at Inv-loop μ-loop
-add-at c = omega (arith, c .before .before .position-line .ensures .most)
+add-at c =
+    let n = c .before .before .before .before .before in
+    omega (arith, n .before .loop .inv .few, n .loop-test .taken, c .before .before .position-line .ensures .most)
 
 add-i : tie.Need-add-i Inv-loop μ-loop
 add-i c = omega arith
@@ -88,22 +83,11 @@ loop-again c =
     let table = positionTable (a .rows .now) (a .count) in
     let numbered = range 1 (a .count) in
     let i : k .i < length numbered = omega (arith, length-range 1 (a .count), n .loop-test .taken) in
-    let here : positionLine (k .i + 1) (r .row-at .result) ≡ positionText (positions table) (getD numbered (k .i) 0) = rw (r .row-at .ensures) (position-here table (k .i) (n .loop-test .taken)) in (
-      omega arith,
-      omega (arith, d .ensures .most),
-      wrote-next (lineOf (a .rows .now) (a .count)) numbered 0 (a .page .now) (k .page) (d .last .0) (k .at) (d .result) (k .i) (a .count) (n .loop-test .taken) i (e .if1 .left) (k .inv .1) (k .inv .2)
-          (wrote-text 80 _ _ _ (d .last .0) (d .result) here (d .ensures)),
-    )
-
--- the page keeps its length
-same : (c : tie.After-loop Inv-loop μ-loop) → length (c .before .loop .page) ≡ length (c .before .before .before .before .args .page .now)
-same c =
-    let k = c .before .loop in
-    let a = c .before .before .before .before .args in
-    kept-length (linesTo (a .rows .now) (a .count) (k .i)) (a .page .now) (k .page) (k .at) (k .inv .2) (omega (arith, k .inv .2 .bytes))
+    let here : positionLine (k .i + 1) (r .row-at .result) ≡ positionText (positions table) (getD numbered (k .i) 0) = rw (r .row-at .ensures) (position-here table (k .i) (n .loop-test .taken)) in
+    lined-next _ _ _ _ (e .if1 .left) _ _ _ (k .inv) 0 _ _ (n .loop-test .taken) i (wrote-text LINE _ _ _ (d .last .0) (d .result) here (d .ensures))
 
 same-length : tie.Need-same-length Inv-loop μ-loop
-same-length c = same c
+same-length c = lined-length _ _ _ _ (c .before .before .if1 .left) _ _ _ (c .before .loop .inv)
 
 returns-2 : tie.Need-returns-2 Inv-loop μ-loop
 returns-2 c =
@@ -113,9 +97,8 @@ returns-2 c =
     let a = s .args in
     let table = positionTable (a .rows .now) (a .count) in
     let fits : PositionsFit table = record { places = length-rows (a .rows .now); held = s .pre } in
-    let all : k .i ≡ a .count = omega arith in
-    let text : linesTo (a .rows .now) (a .count) (k .i) ≡ positionLines (positions table) = ap (linesTo (a .rows .now) (a .count)) all ∙ positions-all table fits in
-    put-wrote (80 * a .count) (positionLines (positions table)) (a .page .now) (k .page) (k .at) (e .if1 .left) (omega (arith, ap length text, k .inv .2 .bytes)) (put-text _ (positionLines (positions table)) (a .page .now) (k .page) (k .at) text (k .inv .2))
+    let all : k .i ≡ a .count = omega (arith, k .inv .within, c .loop-test .left) in
+    all-lined _ _ _ _ (e .if1 .left) _ _ _ (k .inv) (positionLines (positions table)) (ap (λ (n : ℕ). each (lineOf (a .rows .now) (a .count)) (take n (range 1 (a .count)))) all ∙ positions-all table fits)
 
 pub position-lines-spec : {M : Type 1} → statement M
 position-lines-spec =

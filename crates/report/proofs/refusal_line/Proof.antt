@@ -1,34 +1,25 @@
 -- `report::refusal_line` meets its contract: the line is no longer than a page has room for.
-use native.Mathlib.Omega.{arith}
-use mathlib.Core.List.{[], _∷_}
-use Rattle.report.specs.Lines.{LINE, refusalLine}
-use Rattle.report.specs.Lengths.{length-numbers, most8, refusal-most}
-use Rattle.report.specs.Pages.{none-wrote, put-wrote}
+use Rattle.report.specs.Lines.{refusalLine}
+use Rattle.report.specs.Lengths.{refusal-most}
 use borrow.Author.Needs.{needs}
 use Rattle.report.proofs.refusal_line.Statement.{statement}
 use Rattle.report.proofs.refusal_line.Tie as tie
 
-returns : tie.Need-returns
-returns c =
-    let a = c .before .before .args in
-    none-wrote LINE (refusalLine (a .number)) (a .page .now) (c .if1 .taken)
+slice-aggregate-put-line : tie.Need-slice-aggregate-put-line
+slice-aggregate-put-line c = search needs
 
 put-line-requires : tie.Need-put-line-requires
+unfolding refusalLine
 put-line-requires c κs =
     let s = c .before .before .before in
-    let e = length-numbers (s .args .number ∷ []) in
-    (omega arith, omega (arith, most8 (s .args .number) (s .fits .number .fits), c .before .if1 .left))
+    refusal-most (s .args .number) (s .fits .number .fits)
 
 same-length : tie.Need-same-length
 same-length c = search needs
 
-returns-2 : tie.Need-returns-2
+returns : tie.Need-returns
 unfolding refusalLine
-returns-2 c =
-    let s = c .before .before .before .before .before .before in
-    let a = s .args in
-    let d = c .before .before .put-line in
-    put-wrote LINE (refusalLine (a .number)) (a .page .now) (d .last .0) (d .result) (c .before .before .before .before .if1 .left) (refusal-most (a .number) (s .fits .number .fits)) (d .ensures)
+returns c = c .before .before .put-line .ensures
 
 pub refusal-line-spec : {M : Type 1} → statement M
-refusal-line-spec = tie.close (tie.spec returns put-line-requires same-length returns-2)
+refusal-line-spec = tie.close (tie.spec slice-aggregate-put-line put-line-requires same-length returns)

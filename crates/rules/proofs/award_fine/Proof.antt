@@ -10,8 +10,8 @@ use Rattle.rules.proofs.award_fine.Tie as tie
 rounded-requires : tie.Need-rounded-requires
 rounded-requires c κs = search needs
 
-larger-requires : tie.Need-larger-requires
-larger-requires c κs = search needs
+greater-requires : tie.Need-greater-requires
+greater-requires c κs = search needs
 
 returns : tie.Need-returns
 unfolding awardFine
@@ -21,7 +21,7 @@ returns-2 : tie.Need-returns-2
 unfolding awardFine
 returns-2 c =
     let a = c .before .before .before .before .before .args in
-    c .larger .ensures
+    c .greater .ensures
     ∙ ap (max 100000) (c .before .rounded .ensures)
     ∙ sym (of-one-or-two (a .class) _ _ _ (omega arith) (omega arith))
 
@@ -37,4 +37,4 @@ returns-4 c =
     (c .before .before .match .rest .1))
 
 pub award-fine-spec : {M : Type 1} → statement M
-award-fine-spec = tie.close (tie.spec rounded-requires larger-requires returns returns-2 returns-3 returns-4)
+award-fine-spec = tie.close (tie.spec rounded-requires greater-requires returns returns-2 returns-3 returns-4)

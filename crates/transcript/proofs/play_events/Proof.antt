@@ -1,13 +1,14 @@
 -- `transcript::play_events` meets its contract. The loop's invariant: the page has the text of the events from the first one up to the next.
 use Prim.Native.Nat.{_+_, _-_, _≤_}
 use native.Mathlib.Omega.{arith}
-use mathlib.Core.Path.{_≡_, refl, subst}
+use mathlib.Core.Path.{_≡_, refl, ap, subst}
 use mathlib.Core.Logic.{⊎-elim}
 use lib.ListN.{length}
 use denote.Ref.{now}
 use borrow.Author.Needs.{needs}
 use borrow.Author.Tests.{leb-true, leb-false}
 use Rattle.plain.specs.declared.Manner.the-variants.{Delivered}
+use Rattle.calls.specs.declared.Answered.{Answered}
 use Rattle.calls.specs.declared.Core.{Core}
 use Rattle.calls.specs.View.{Numbers, numbers, Held}
 use Rattle.calls.specs.Stepping.{Stepped}
@@ -35,7 +36,7 @@ abbrev tables : tie.At-loop Inv-loop μ-loop → Numbers
 tables k = numbers (k .loop .rows) (k .loop .trades) (k .loop .awards) (k .loop .counts)
 
 held : (e : tie.After-event-at Inv-loop μ-loop) → Held (turn e .loop .last .core) (tables (turn e))
-held e = turn e .loop .inv .0 .held
+held e = turn e .loop .inv .0 .played' .held
 
 long : (e : tie.After-event-at Inv-loop μ-loop) → length (turn e .loop .sheet) ≡ 4096
 long e = turn e .loop .inv .1
@@ -132,7 +133,7 @@ close-requires c κs = held (c .before .before .before .before .before .before)
 
 -- each arm makes the call of its kind: what they come to where they meet
 stepped : (c : tie.At-match-came Inv-loop μ-loop)
-    → Stepped (turn (c .before) .loop .last .core) (tables (turn (c .before))) (c .before .event-at .result) (c .match .last .core) (numbers (c .match .rows) (c .match .trades) (c .match .awards) (c .match .counts)) (c .match .sheet) (c .match .last .outcome) (c .match .last .pieces)
+    → Stepped (turn (c .before) .loop .last .core) (tables (turn (c .before))) (c .before .event-at .result) (turn (c .before) .loop .sheet) (c .match .last .core) (numbers (c .match .rows) (c .match .trades) (c .match .awards) (c .match .counts)) (c .match .sheet) (c .match .last .outcome) (c .match .last .pieces)
 stepped c =
     let h = held (c .before) in
     let l = long (c .before) in
@@ -141,7 +142,7 @@ stepped c =
     (⊎-elim
     (λ w. rw (w .4, w .5, w .6, w .7, w .8, w .9) (stepped-bare _ _ _ _ _ _ _ _ _ (w .1 .given .1) refl l (w .3 .ensures _ h)))
     (⊎-elim
-    (λ w. rw (w .8, w .9, w .10, w .11, w .12, w .13) (stepped-on _ _ _ _ _ _ _ _ _ _ _ (w .1 .given .1) (w .7 .ensures _ h)))
+    (λ w. rw (w .8, w .9, w .10, w .11, w .12, w .13) (stepped-on _ _ _ _ _ _ _ _ _ (w .1 .given .1) _ (w .7 .ensures _ h)))
     (⊎-elim
     (λ w. rw (w .5, w .6, w .7, w .8, w .9, w .10) (stepped-bare _ _ _ _ _ _ _ _ _ (w .1 .given .1) refl l (w .4 .ensures _ _ _ h)))
     (⊎-elim
@@ -149,9 +150,9 @@ stepped c =
     (⊎-elim
     (λ w. rw (w .6, w .7, w .8, w .9, w .10, w .11) (stepped-bare _ _ _ _ _ _ _ _ _ (w .1 .given .1) refl l (w .5 .ensures _ _ h)))
     (⊎-elim
-    (λ w. rw (w .8, w .9, w .10, w .11, w .12, w .13) (stepped-on _ _ _ _ _ _ _ _ _ _ _ (w .1 .given .1) (w .7 .ensures _ h)))
+    (λ w. rw (w .8, w .9, w .10, w .11, w .12, w .13) (stepped-on _ _ _ _ _ _ _ _ _ (w .1 .given .1) _ (w .7 .ensures _ h)))
     (⊎-elim
-    (λ w. rw (w .7, w .8, w .9, w .10, w .11, w .12) (stepped-on _ _ _ _ _ _ _ _ _ _ _ (w .1 .given .1) (w .6 .ensures _ _ h)))
+    (λ w. rw (w .7, w .8, w .9, w .10, w .11, w .12) (stepped-on _ _ _ _ _ _ _ _ _ (w .1 .given .1) _ (w .6 .ensures _ _ h)))
     (λ w. rw (w .7, w .8, w .9, w .10, w .11, w .12) (stepped-bare _ _ _ _ _ _ _ _ _ (w .1 .given .1) refl l (w .6 .ensures))))))))))
     (c .match .came)
 
@@ -190,7 +191,7 @@ loop-again c =
     let k = turn e in
     let d = stepped m in (
       one-reached _ _ _ _ (k .loop .next) _ _ _ _ (m .match .last .core) _ (numbers (m .match .rows) (m .match .trades) (m .match .awards) (m .match .counts)) (e .event-at .result) _ (k .loop .used) _ (k .loop .inv .0)
-          (omega (arith, k .before .before .events-in .ensures, t .before .loop-test .taken)) (e .event-at .ensures) refl (room-taken t) (shown _ _ _ _ _ _ _ _ _ _ _ _ (room-lent t) d (w .answer-lines .ensures)),
+          (omega (arith, k .before .before .events-in .ensures, t .before .loop-test .taken)) (e .event-at .ensures) refl (room-taken t) (shown _ _ _ _ _ _ _ _ _ _ _ _ _ (room-lent t) d (w .answer-lines .ensures)),
       d .places,
     )
 
@@ -204,7 +205,7 @@ returns c =
     let first = k .before in
     let s = first .before .before .before .before in (
       subst (λ (b : Core). PlayedOn (now (s .args .file)) b (numbers (s .args .rows .now) (s .args .trades .now) (s .args .awards .now) (s .args .counts .now)) (s .args .from) (now (s .args .page)) (k .loop .page) (tables k) (record { core = k .loop .last .core; next = k .loop .next; used = k .loop .used }))
-          (first .unplayed .ensures)
+          (ap (λ (r : Answered). r .core) (first .unplayed .ensures))
           (played-on _ _ _ _ _ _ _ _ _ _ h
           (λ there room.
           ⊎-elim

@@ -1,0 +1,123 @@
+// An auction from its attempt over the offers to the award.
+ghost use Prim.Native.Nat.{ℕ, _<_};
+ghost use mathlib.Core.Path.{_≡_};
+ghost use mathlib.Core.List.{List};
+ghost use lib.ListN.{length};
+ghost use Rattle.laws.specs.Limits.{ATTEMPTS};
+ghost use Rattle.events.specs.declared.Event.the-variants as event;
+ghost use Rattle.plain.specs.Calls.{call};
+ghost use Rattle.calls.specs.Cores.{attemptedCore};
+ghost use Rattle.calls.specs.View.{numbers, Held, CalledBare};
+use crate::Answered;
+use crate::Core;
+use crate::class_of;
+use crate::done;
+use crate::latest_of;
+use crate::refused;
+use events::Attempt;
+use events::Offer;
+use refusals::NOT_THERE;
+
+// The position is marked, and its auction opens without an offer.
+fn open_auction(core: Core, position: u16, ceiling: u64) -> Core
+    requires { ⌜ (length (core .marks .items) ≡ ATTEMPTS) × (core .marks .count < ATTEMPTS) ⌝ }
+    ensures { λ r. ⌜ r ≡ attemptedCore core position ceiling ⌝ }
+{
+    let mut marks = core.marks;
+    let n = marks.count;
+    marks.items[n] = position;
+    marks.count = n + 1;
+    let mut opened = core.auction;
+    opened.position = position;
+    opened.ceiling = ceiling;
+    opened.count = 0;
+    let mut after = core;
+    after.marks = marks;
+    after.auction = opened;
+    after
+}
+
+pub fn attempt(core: Core, rows: &[u32; 10240], a: Attempt) -> Answered
+    requires { ⌜ ((trades awards counts : List ℕ) × Held core (numbers (now rows) trades awards counts)) ⌝ }
+    ensures { λ r. ⌜ ((trades awards counts : List ℕ) → Held core (numbers (now (rows .entry)) trades awards counts) → CalledBare core (numbers (now (rows .entry)) trades awards counts) (call (event.Attempt a) 0) (r .core) (numbers (now (rows .entry)) trades awards counts) (r .outcome) (r .pieces)) ⌝ }
+{
+    if !refusals::is_within(1, core.positions, a.position as usize) {
+        return refused(core, NOT_THERE);
+    }
+    let place = (a.position - 1) as usize;
+    let p = rows::row_at(rows, place);
+    let class = class_of(core.opening, p.security);
+    let latest = latest_of(core.prices, p.security);
+    let today = refusals::step_today(class, core.day, p);
+    let marked = auction::is_marked(core.marks, a.position);
+    let number = refusals::attempt_refusal(
+        p,
+        today,
+        core.auction.position,
+        latest,
+        core.marks.count,
+        marked,
+    );
+    if number != 0 {
+        return refused(core, number);
+    }
+    let ceiling = rules::ceiling_of(class, latest);
+    let after = open_auction(core, a.position, ceiling);
+    done(after, 0, 0)
+}
+
+// The offerer is tested against the word of the security that is auctioned.
+pub fn offer(core: Core, rows: &[u32; 10240], o: Offer) -> Answered
+    requires { ⌜ ((trades awards counts : List ℕ) × Held core (numbers (now rows) trades awards counts)) ⌝ }
+    ensures { λ r. ⌜ ((trades awards counts : List ℕ) → Held core (numbers (now (rows .entry)) trades awards counts) → CalledBare core (numbers (now (rows .entry)) trades awards counts) (call (event.Offer o) 0) (r .core) (numbers (now (rows .entry)) trades awards counts) (r .outcome) (r .pieces)) ⌝ }
+{
+    let first = refusals::offer_refusal(core.positions, core.auction.position, o);
+    if first != 0 {
+        return refused(core, first);
+    }
+    let place = (o.position - 1) as usize;
+    let short = rows::row_at(rows, place);
+    let word = failing::word_of(core.followed.failing, short.security);
+    let fails = failing::is_failing(word, o.offerer);
+    let number = refusals::auction_refusal(
+        fails,
+        core.auction.ceiling,
+        core.auction.count,
+        o.price,
+    );
+    if number != 0 {
+        return refused(core, number);
+    }
+    let mut entered = core.auction;
+    let n = entered.count;
+    entered.offers[n] = o;
+    entered.count = n + 1;
+    let mut after = core;
+    after.auction = entered;
+    done(after, o.quantity, 0)
+}
+
+// The auction ends in awards. Its offers' cells stay as they are, past the count.
+pub fn award(
+    core: Core,
+    rows: &[u32; 10240],
+    awards: &mut [u32; 1280],
+    a: events::Award,
+) -> Answered
+    requires { ⌜ ((trades counts : List ℕ) × Held core (numbers (now rows) trades (now awards) counts)) ⌝ }
+    ensures { λ r. ⌜ ((trades counts : List ℕ) → Held core (numbers (now (rows .entry)) trades (now (awards .entry)) counts) → CalledBare core (numbers (now (rows .entry)) trades (now (awards .entry)) counts) (call (event.Award a) 0) (r .core) (numbers (now (rows .entry)) trades (now (awards .exit)) counts) (r .outcome) (r .pieces)) ⌝ }
+{
+    let number = refusals::award_refusal(core.positions, core.auction.position, a.position);
+    if number != 0 {
+        return refused(core, number);
+    }
+    let place = (a.position - 1) as usize;
+    let short = rows::row_at(rows, place);
+    let awarding = auction::awarded_to(core.auction, short.unsettled, awards, core.awards);
+    let mut after = core;
+    after.auction.position = 0;
+    after.auction.ceiling = 0;
+    after.auction.count = 0;
+    after.awards = awarding.count;
+    done(after, awarding.total, 0)
+}

@@ -1,0 +1,141 @@
+// A new book: its core, and the tables that are lent with it.
+ghost use mathlib.Core.Path.{_≡_};
+ghost use lib.ListN.{length, replicate};
+ghost use Rattle.laws.specs.Limits.{ACCOUNTS, ATTEMPTS, OFFERS, SECURITIES};
+ghost use Rattle.register.specs.Accepted.{Registered};
+ghost use Rattle.plain.specs.Book.{noPrice, new};
+ghost use Rattle.calls.specs.Opening.{OpenedOn};
+ghost use Rattle.calls.specs.View.{Numbers, bookOf, Held, Blank};
+use crate::Core;
+use crate::Followed;
+use crate::Opened;
+use events::Offer;
+use failing::Words;
+use laws::ACCOUNTS;
+use laws::ATTEMPTS;
+use laws::BusinessDay;
+use laws::OFFERS;
+use laws::SECURITIES;
+use plain::Latest;
+use plain::Ledger;
+use plain::Opening;
+use tables::Auction;
+use tables::Marks;
+use tables::Prices;
+
+// The parts of a new book.
+fn no_prices() -> Prices
+    ensures { λ r. ⌜ r .latest ≡ replicate SECURITIES noPrice ⌝ }
+{
+    let none = Latest { price: 0 };
+    let latest = [none; SECURITIES];
+    Prices { latest }
+}
+
+fn no_auction() -> Auction
+    ensures { λ r. ⌜ (r .position ≡ 0) × (r .ceiling ≡ 0) × (r .count ≡ 0) × (length (r .offers) ≡ OFFERS) ⌝ }
+{
+    let o = Offer {
+        position: 0,
+        offerer: 0,
+        quantity: 0,
+        price: 0,
+    };
+    let offers = [o; OFFERS];
+    Auction {
+        position: 0,
+        ceiling: 0,
+        offers,
+        count: 0,
+    }
+}
+
+fn no_marks() -> Marks
+    ensures { λ r. ⌜ (r .count ≡ 0) × (length (r .items) ≡ ATTEMPTS) ⌝ }
+{
+    let items = [0u16; ATTEMPTS];
+    Marks { items, count: 0 }
+}
+
+fn no_cents() -> Ledger
+    ensures { λ r. ⌜ (r .credits ≡ replicate ACCOUNTS 0) × (r .debits ≡ replicate ACCOUNTS 0) ⌝ }
+{
+    let credits = [0u64; ACCOUNTS];
+    let debits = [0u64; ACCOUNTS];
+    Ledger { credits, debits }
+}
+
+fn none_followed() -> Followed
+    ensures { λ r. ⌜ (r .starts ≡ replicate SECURITIES 0) × (r .failing .words ≡ replicate SECURITIES 0) × (r .late ≡ 0) ⌝ }
+{
+    let starts = [0u16; SECURITIES];
+    let words = [0u64; SECURITIES];
+    let failing = Words { words };
+    Followed {
+        starts,
+        failing,
+        late: 0,
+    }
+}
+
+// A new book. Whatever stands in the tables of positions, trades and awards that are lent with it, no definition reads; the counts are 0.
+pub fn new_core(opening: Opening) -> Core
+    ensures { λ r. ⌜ ((a : Numbers) → Blank a → (bookOf r a ≡ new opening) × (Registered (opening .register) → Held r a)) ⌝ }
+{
+    let day = BusinessDay(1);
+    let prices = no_prices();
+    let auction = no_auction();
+    let marks = no_marks();
+    let ledger = no_cents();
+    let followed = none_followed();
+    Core {
+        opening,
+        day,
+        prices,
+        auction,
+        marks,
+        ledger,
+        followed,
+        positions: 0,
+        trades: 0,
+        netted: 0,
+        awards: 0,
+    }
+}
+
+// The tables that are lent with a new book. Only the counts have to be 0.
+pub fn blank_rows() -> [u32; 10240]
+    ensures { λ r. ⌜ (r ≡ replicate 10240 0) × (length r ≡ 10240) ⌝ }
+{
+    [0u32; 10240]
+}
+
+pub fn blank_trades() -> [u32; 2560]
+    ensures { λ r. ⌜ (r ≡ replicate 2560 0) × (length r ≡ 2560) ⌝ }
+{
+    [0u32; 2560]
+}
+
+pub fn blank_awards() -> [u32; 1280]
+    ensures { λ r. ⌜ (r ≡ replicate 1280 0) × (length r ≡ 1280) ⌝ }
+{
+    [0u32; 1280]
+}
+
+pub fn no_counts() -> [u32; 2048]
+    ensures { λ r. ⌜ r ≡ replicate 2048 0 ⌝ }
+{
+    [0u32; 2048]
+}
+
+pub fn open_core(bytes: &[u8]) -> Opened
+    ensures { λ r. ⌜ OpenedOn (now (bytes .entry)) r ⌝ }
+{
+    let read = register::read_register(bytes);
+    let register = read.register;
+    let core = new_core(Opening { register });
+    Opened {
+        number: read.number,
+        core,
+    }
+}

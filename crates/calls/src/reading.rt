@@ -1,0 +1,75 @@
+// What a caller reads of a book. Nothing is changed.
+ghost use Prim.Native.Nat.{ℕ};
+ghost use mathlib.Core.Path.{_≡_};
+ghost use mathlib.Core.List.{List};
+ghost use Rattle.calls.specs.Reading.{positionAnswer, awardAnswer, balanceAnswer};
+ghost use Rattle.calls.specs.View.{Numbers, numbers, bookOf, Held};
+use crate::AwardAnswer;
+use crate::BalanceAnswer;
+use crate::Core;
+use crate::PositionAnswer;
+use laws::BusinessDay;
+use laws::MEMBERS;
+use plain::Ledger;
+use refusals::NO_MEMBER;
+use refusals::NOT_THERE;
+
+pub fn day(core: Core) -> BusinessDay
+    ensures { λ r. ⌜ r ≡ core .day ⌝ }
+{
+    core.day
+}
+
+pub fn position_count(core: Core) -> usize
+    ensures { λ r. ⌜ r ≡ core .positions ⌝ }
+{
+    core.positions
+}
+
+// All accounts at once.
+pub fn accounts(core: Core) -> Ledger
+    ensures { λ r. ⌜ r ≡ core .ledger ⌝ }
+{
+    core.ledger
+}
+
+pub fn position(core: Core, rows: &[u32; 10240], number: u16) -> PositionAnswer
+    requires { ⌜ ((trades awards counts : List ℕ) × Held core (numbers (now rows) trades awards counts)) ⌝ }
+    ensures { λ r. ⌜ ((trades awards counts : List ℕ) → Held core (numbers (now (rows .entry)) trades awards counts) → r ≡ positionAnswer (bookOf core (numbers (now (rows .entry)) trades awards counts)) number) ⌝ }
+{
+    let n = number as usize;
+    if !refusals::is_within(1, core.positions, n) {
+        return PositionAnswer::Refused(NOT_THERE);
+    }
+    let found = rows::row_at(rows, n - 1);
+    PositionAnswer::Found(found)
+}
+
+pub fn award_at(core: Core, awards: &[u32; 1280], number: u16) -> AwardAnswer
+    requires { ⌜ ((rows trades counts : List ℕ) × Held core (numbers rows trades (now awards) counts)) ⌝ }
+    ensures { λ r. ⌜ ((rows trades counts : List ℕ) → Held core (numbers rows trades (now (awards .entry)) counts) → r ≡ awardAnswer (bookOf core (numbers rows trades (now (awards .entry)) counts)) number) ⌝ }
+{
+    let n = number as usize;
+    if !refusals::is_within(1, core.awards, n) {
+        return AwardAnswer::Refused(NOT_THERE);
+    }
+    let found = rows::award_at(awards, n - 1);
+    AwardAnswer::Found(found)
+}
+
+pub fn balance(core: Core, account: u8) -> BalanceAnswer
+    requires { ⌜ ((a : Numbers) × Held core a) ⌝ }
+    ensures { λ r. ⌜ ((a : Numbers) → r ≡ balanceAnswer (bookOf core a) account) ⌝ }
+{
+    if MEMBERS < account {
+        return BalanceAnswer::Refused(NO_MEMBER);
+    }
+    let k = account as usize;
+    let ledger = core.ledger;
+    let credit = ledger.credits[k];
+    let debit = ledger.debits[k];
+    if credit < debit {
+        return BalanceAnswer::Debit(debit - credit);
+    }
+    BalanceAnswer::Credit(credit - debit)
+}

@@ -1,0 +1,46 @@
+// Trades and prices.
+ghost use Prim.Native.Nat.{ℕ};
+ghost use mathlib.Core.Path.{_≡_};
+ghost use mathlib.Core.List.{List};
+ghost use lib.ListN.{length};
+ghost use Rattle.events.specs.declared.Event.the-variants as event;
+ghost use Rattle.plain.specs.Calls.{call};
+ghost use Rattle.calls.specs.View.{Numbers, numbers, Held, CalledBare};
+use crate::Answered;
+use crate::Core;
+use crate::done;
+use crate::refused;
+use events::Price;
+use events::Trade;
+use plain::Latest;
+
+pub fn trade(core: Core, trades: &mut [u32; 2560], t: Trade) -> Answered
+    requires { ⌜ length (now trades) ≡ 2560 ⌝ }
+    ensures { λ r. ⌜ ((rows awards counts : List ℕ) → Held core (numbers rows (now (trades .entry)) awards counts) → CalledBare core (numbers rows (now (trades .entry)) awards counts) (call (event.Trade t) 0) (r .core) (numbers rows (now (trades .exit)) awards counts) (r .outcome) (r .pieces)) ⌝ }
+{
+    let number = refusals::trade_refusal(core.opening.register.count, core.trades, t);
+    if number != 0 {
+        return refused(core, number);
+    }
+    let n = core.trades;
+    rows::put_trade(trades, n, t);
+    let mut after = core;
+    after.trades = n + 1;
+    done(after, t.quantity, 0)
+}
+
+pub fn price(core: Core, p: Price) -> Answered
+    requires { ⌜ ((a : Numbers) × Held core a) ⌝ }
+    ensures { λ r. ⌜ ((a : Numbers) → Held core a → CalledBare core a (call (event.Price p) 0) (r .core) a (r .outcome) (r .pieces)) ⌝ }
+{
+    let number = refusals::price_refusal(core.opening.register.count, p);
+    if number != 0 {
+        return refused(core, number);
+    }
+    let k = (p.security - 1) as usize;
+    let mut prices = core.prices;
+    prices.latest[k] = Latest { price: p.price };
+    let mut after = core;
+    after.prices = prices;
+    done(after, 0, 0)
+}

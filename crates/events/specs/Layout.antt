@@ -1,0 +1,80 @@
+-- The layout of an event file: how long its parts are, where a body's fields stand, and which bytes of a body each kind uses.
+-- Document 01, 'Event files and the player'. The code's constants have the same names.
+use Prim.Native.Nat.{ℕ, _+_}
+use mathlib.Core.List.{List, [], _∷_}
+use mathlib.Core.Bool.{Bool}
+use lib.ListN.{getD, replicate}
+use Rattle.laws.specs.WordLaws.{nonzero}
+
+-- "A file is a count (u16, at most 2,048), body width (u16, 16), an array of kind bytes, then an array of bodies."
+abbrev pub COUNT-AT : ℕ
+COUNT-AT = 0
+
+abbrev pub WIDTH-AT : ℕ
+WIDTH-AT = 2
+
+-- the bytes before the kind bytes
+abbrev pub HEADER : ℕ
+HEADER = 4
+
+-- the bytes of a body, and those of an event: its kind byte and its body
+abbrev pub BODY : ℕ
+BODY = 16
+
+abbrev pub EVENT-BYTES : ℕ
+EVENT-BYTES = 1 + BODY
+
+-- "An event is one of nine kinds"
+abbrev pub KINDS : ℕ
+KINDS = 9
+
+-- "Body: u16 position, award or security; u8 seller or offerer; u8 buyer; u32 quantity; u32 price; four spare bytes."
+abbrev pub SUBJECT-AT : ℕ
+SUBJECT-AT = 0
+
+abbrev pub FIRST-AT : ℕ
+FIRST-AT = 2
+
+abbrev pub SECOND-AT : ℕ
+SECOND-AT = 3
+
+abbrev pub QUANTITY-AT : ℕ
+QUANTITY-AT = 4
+
+abbrev pub PRICE-AT : ℕ
+PRICE-AT = 8
+
+abbrev pub LAST-AT : ℕ
+LAST-AT = 12
+
+-- a row of marks in which no byte is used
+abbrev pub unmarked : List ℕ
+unmarked = replicate BODY 0
+
+-- the bytes of a body that a kind uses, marked 1, a row for each number from 0, which is no kind, to 9;
+-- "A field the kind has no use for is spare", and its bytes are marked 0. No other row would do: an event's fields stand in
+-- bytes that its kind uses (`told` of Inverse.antt), and what is read from used bytes is written again (`body-back` of Passing.antt).
+abbrev pub usedBytes : List (List ℕ)
+usedBytes =
+    (0 ∷ 0 ∷ 0 ∷ 0 ∷ 0 ∷ 0 ∷ 0 ∷ 0 ∷ 0 ∷ 0 ∷ 0 ∷ 0 ∷ 0 ∷ 0 ∷ 0 ∷ 0 ∷ [])
+    -- 1 trade, 2 price, 3 delivery
+    ∷ (1 ∷ 1 ∷ 1 ∷ 1 ∷ 1 ∷ 1 ∷ 1 ∷ 1 ∷ 1 ∷ 1 ∷ 1 ∷ 1 ∷ 0 ∷ 0 ∷ 0 ∷ 0 ∷ [])
+    ∷ (1 ∷ 1 ∷ 0 ∷ 0 ∷ 0 ∷ 0 ∷ 0 ∷ 0 ∷ 1 ∷ 1 ∷ 1 ∷ 1 ∷ 0 ∷ 0 ∷ 0 ∷ 0 ∷ [])
+    ∷ (1 ∷ 1 ∷ 0 ∷ 0 ∷ 1 ∷ 1 ∷ 1 ∷ 1 ∷ 0 ∷ 0 ∷ 0 ∷ 0 ∷ 0 ∷ 0 ∷ 0 ∷ 0 ∷ [])
+    -- 4 attempt, 5 offer, 6 award
+    ∷ (1 ∷ 1 ∷ 0 ∷ 0 ∷ 0 ∷ 0 ∷ 0 ∷ 0 ∷ 0 ∷ 0 ∷ 0 ∷ 0 ∷ 0 ∷ 0 ∷ 0 ∷ 0 ∷ [])
+    ∷ (1 ∷ 1 ∷ 1 ∷ 0 ∷ 1 ∷ 1 ∷ 1 ∷ 1 ∷ 1 ∷ 1 ∷ 1 ∷ 1 ∷ 0 ∷ 0 ∷ 0 ∷ 0 ∷ [])
+    ∷ (1 ∷ 1 ∷ 0 ∷ 0 ∷ 0 ∷ 0 ∷ 0 ∷ 0 ∷ 0 ∷ 0 ∷ 0 ∷ 0 ∷ 0 ∷ 0 ∷ 0 ∷ 0 ∷ [])
+    -- 7 confirm, 8 cash, 9 close
+    ∷ (1 ∷ 1 ∷ 0 ∷ 0 ∷ 0 ∷ 0 ∷ 0 ∷ 0 ∷ 0 ∷ 0 ∷ 0 ∷ 0 ∷ 0 ∷ 0 ∷ 0 ∷ 0 ∷ [])
+    ∷ (1 ∷ 1 ∷ 0 ∷ 0 ∷ 0 ∷ 0 ∷ 0 ∷ 0 ∷ 0 ∷ 0 ∷ 0 ∷ 0 ∷ 0 ∷ 0 ∷ 0 ∷ 0 ∷ [])
+    ∷ (0 ∷ 0 ∷ 0 ∷ 0 ∷ 0 ∷ 0 ∷ 0 ∷ 0 ∷ 0 ∷ 0 ∷ 0 ∷ 0 ∷ 0 ∷ 0 ∷ 0 ∷ 0 ∷ [])
+    ∷ []
+
+-- the marks of a kind; a byte that is no kind uses none
+unfoldable pub marksOf : ℕ → List ℕ
+marksOf kind = getD usedBytes kind unmarked
+
+-- whether marks say that the byte at a place is used
+abbrev pub used : List ℕ → ℕ → Bool
+used marks j = nonzero (getD marks j 0)

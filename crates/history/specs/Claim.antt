@@ -1,0 +1,99 @@
+-- Document 01, 'The plain book': "Demand 3 is a single claim about the list (also called a history), not one for each call." What it says of every
+-- list of calls from any opened book, refused ones included, in place or by value, with sheets of any length.
+use Prim.Native.Nat.{ℕ, suc, _+_, _<_}
+use mathlib.Core.Path.{_≡_}
+use mathlib.Core.Logic.{_≢_}
+use mathlib.Core.List.{List, [], _∷_, _++_, map}
+use mathlib.Core.Bool.{true}
+use lib.ListN.{length, getD, take, drop}
+use lib.IntN.{pos, subℕ}
+use Rattle.laws.specs.Limits.{ACCOUNTS}
+use Rattle.laws.specs.Lists.{All, range, sum}
+use Rattle.laws.specs.Integers.{sumℤ}
+use Rattle.plain.specs.declared.Opening.{Opening}
+use Rattle.plain.specs.declared.Position.{Position}
+use Rattle.plain.specs.declared.Piece.{Piece}
+use Rattle.plain.specs.Book.{new, noPosition, nth, positionOf}
+use Rattle.plain.specs.Dealing.{manners, takenBy, fresh}
+use Rattle.plain.specs.Charging.{creditOf, debitOf}
+use Rattle.plain.specs.Calls.{Call, isDischarge, shortOf}
+use Rattle.plain.specs.Refusals.{refusal}
+use Rattle.plain.specs.Histories.{eventOf, pieces, quantity, along, refusals, quantities, run, allCharges, acceptedEvents, formedBy, balance}
+use Rattle.plain.specs.Invariants.{DueLong}
+use Rattle.plain.specs.Sound.{Small}
+use Rattle.pieces.specs.Sheet.{piecesOf}
+use Rattle.kept.specs.View.{answer, numberOf, quantityOf}
+use Rattle.calls.specs.declared.PositionAnswer.the-variants.{Found}
+use Rattle.calls.specs.Reading.{positionAnswer, signed, balanceAnswer}
+use Rattle.history.specs.Runs.{Stand, view, Sheet, noSheet, numberSheet, pieceSheet, handedBack, Return, piecesOn, last, sheets}
+
+-- what is said of each call of a list
+pub data Each (P : Stand → Call → Return → Type 0) : Stand → List Call → List Return → Type 0 where
+  none : {s : Stand} → Each P s [] []
+  one : {s : Stand} {c : Call} {r : Return} {cs : List Call} {rs : List Return} → P s c r → Each P (r .stand) cs rs → Each P s (c ∷ cs) (r ∷ rs)
+
+-- an accepted discharge's pieces add up to the quantity that it reports, and run from its short to due longs of that short's security
+pub record Dealt (s : Stand) (c : Call) (r : Return) : Type 0 where
+  pub total : sum (λ x. x .quantity) (piecesOn r) ≡ quantityOf (r .outcome)
+  pub shorts : All (λ x. x .short ≡ shortOf (view s) (eventOf c)) (piecesOn r)
+  pub longs : All (λ x. DueLong (view s) (positionOf (view s) (shortOf (view s) (eventOf c)) .security) (x .long)) (piecesOn r)
+
+abbrev pub DealtOut : Stand → Call → Return → Type 0
+DealtOut s c r = numberOf (r .outcome) ≡ 0 → isDischarge (eventOf c) ≡ true → Dealt s c r
+
+-- "A refused call changes nothing": core and tables are the very same
+abbrev pub Kept : Stand → Call → Return → Type 0
+Kept s c r = numberOf (r .outcome) ≢ 0 → (r .stand ≡ s) × (piecesOn r ≡ []) × (quantityOf (r .outcome) ≡ 0)
+
+-- what a call's sheet holds as it returned, with so many pieces: "The pieces fill the first places of a lent sheet ..; later places keep their
+-- content". The later places of a sheet of numbers are free
+abbrev pub Holds : Sheet → ℕ → List Piece → Type 0
+Holds noSheet n xs = [] ≡ xs
+Holds (numberSheet m entry exit) n xs = take n (piecesOf m exit) ≡ xs
+Holds (pieceSheet entry exit) n xs = exit ≡ xs ++ drop n entry
+Holds (handedBack ys) n xs = ys ≡ xs
+
+-- a sheet as at entry
+abbrev pub AsAtEntry : Sheet → Type 0
+AsAtEntry noSheet = Unit {0}
+AsAtEntry (numberSheet m entry exit) = exit ≡ entry
+AsAtEntry (pieceSheet entry exit) = exit ≡ entry
+AsAtEntry (handedBack xs) = xs ≡ []
+
+pub record Filled (s : Stand) (c : Call) (r : Return) : Type 0 where
+  pub count : r .count ≡ length (pieces (view s) c)
+  pub filled : Holds (r .sheet) (r .count) (pieces (view s) c)
+  pub kept : numberOf (r .outcome) ≢ 0 → AsAtEntry (r .sheet)
+
+-- After the list of calls cs from where the history s begins, on a book that was opened so, with what each returned
+pub record History (opening : Opening) (s : Stand) (cs : List Call) (rs : List Return) : Type 0 where
+  -- 1. each call's answer, its refusal number and its quantity are the plain book's, and the book is the plain book's
+  pub answered : map (λ r. r .outcome) rs ≡ along (λ b c. answer (refusal b c) (quantity b c)) (new opening) cs
+  pub numbers : map (λ r. numberOf (r .outcome)) rs ≡ refusals (new opening) cs
+  pub reported : map (λ r. quantityOf (r .outcome)) rs ≡ quantities (new opening) cs
+  pub book : view (last s rs) ≡ run (new opening) cs
+  -- 2. each position's netted quantity, worked out from the accepted trades and closes of the list alone, is delivered, bought in, settled in cash and open
+  pub netted : (i : ℕ) → i < length (view (last s rs) .positions)
+      → getD (formedBy opening (acceptedEvents (new opening) cs)) i noPosition .netted
+      ≡ sum (λ m. takenBy m (suc i) (sheets rs)) manners + getD (view (last s rs) .positions) i noPosition .unsettled
+  -- the same of what the public read reports of a position
+  pub open-units : (n : ℕ) (p : Position) → positionAnswer (view (last s rs)) n ≡ Found p
+      → nth noPosition (formedBy opening (acceptedEvents (new opening) cs)) n .netted
+      ≡ sum (λ m. takenBy m n (sheets rs)) manners + p .unsettled
+  -- and all that makes a position comes from them alone: its member, security, side, delivery day and reference price
+  pub positions : map fresh (view (last s rs) .positions) ≡ formedBy opening (acceptedEvents (new opening) cs)
+  -- 3. each call's pieces are the plain book's, in the same order; an accepted discharge's add up to the quantity that it reports
+  pub dealt : map piecesOn rs ≡ along pieces (new opening) cs
+  pub discharges : Each DealtOut s cs rs
+  -- 4. every account is the charging rules summed over the list
+  pub accounts : (k : ℕ) → k < ACCOUNTS → balance (view (last s rs)) k ≡ subℕ (creditOf k (allCharges (new opening) cs)) (debitOf k (allCharges (new opening) cs))
+  -- the same of what the public read reports of an account
+  pub balances : (k : ℕ) → k < ACCOUNTS
+      → balanceAnswer (view (last s rs)) k ≡ signed (subℕ (creditOf k (allCharges (new opening) cs)) (debitOf k (allCharges (new opening) cs)))
+  -- 5. all 64 accounts add up to zero, and none leaves plus or minus 10^17 cents
+  pub zero-sum : sumℤ (balance (view (last s rs))) (range 0 ACCOUNTS) ≡ pos 0
+  pub small : (k : ℕ) → Small (view (last s rs)) k
+  -- a refused call returns the very same core, leaves every table as it was, hands out no pieces and reports quantity 0
+  pub refused : Each Kept s cs rs
+  -- each call's sheet holds the plain book's pieces, a sheet of structs after them the places as at entry; a refused call's is as at entry
+  pub filled : Each Filled s cs rs

@@ -1,0 +1,65 @@
+-- The claim about histories, for the plain book: what holds after every list of calls, refused ones included, from any new book.
+use Prim.Native.Nat.{ℕ, suc, _+_, _≤_, _<_}
+use mathlib.Core.Path.{_≡_}
+use mathlib.Core.Logic.{_≢_}
+use mathlib.Core.List.{List, [], map}
+use mathlib.Core.Bool.{true}
+use lib.ListN.{length, getD}
+use lib.IntN.{pos, subℕ}
+use Rattle.laws.specs.Limits.{ACCOUNTS, POSITIONS, AWARDS}
+use Rattle.laws.specs.Lists.{All, range, sum}
+use Rattle.laws.specs.Integers.{sumℤ}
+use Rattle.plain.specs.declared.Opening.{Opening}
+use Rattle.plain.specs.Book.{Book, new, noPosition, positionOf}
+use Rattle.plain.specs.Dealing.{manners, takenBy, fresh}
+use Rattle.plain.specs.Charging.{creditOf, debitOf}
+use Rattle.plain.specs.Calls.{Call, isDischarge, shortOf}
+use Rattle.plain.specs.Refusals.{refusal}
+use Rattle.plain.specs.Histories.{eventOf, next, pieces, quantity, charged, run, handed, allCharges, acceptedEvents, formedBy, balance}
+use Rattle.plain.specs.Invariants.{DueLong, Dealable}
+use Rattle.plain.specs.Sound.{Sound, Small}
+
+-- the pieces of a call, from its short n
+pub record Discharge (b : Book) (c : Call) (n : ℕ) : Type 0 where
+  -- the short is due and has the units
+  pub dealable : Dealable b n (quantity b c)
+  -- the pieces add up to the quantity that the call reports
+  pub total : sum (λ x. x .quantity) (pieces b c) ≡ quantity b c
+  -- each runs from the call's short to a due long of its security
+  pub shorts : All (λ x. x .short ≡ n) (pieces b c)
+  pub longs : All (λ x. DueLong b (positionOf b n .security) (x .long)) (pieces b c)
+
+-- "A refused call changes nothing", and hands out nothing
+pub record Refused (b : Book) (c : Call) : Type 0 where
+  pub book : next b c ≡ b
+  pub pieces' : pieces b c ≡ []
+  pub quantity' : quantity b c ≡ 0
+  pub charges' : charged b c ≡ []
+
+-- after the list of calls cs on a new book that was opened so
+pub record Claim (opening : Opening) (cs : List Call) : Type 0 where
+  -- each position's netted quantity, worked out from the accepted trades and closes of the list alone, is the book's
+  pub netted : (i : ℕ) → getD (run (new opening) cs .positions) i noPosition .netted
+      ≡ getD (formedBy opening (acceptedEvents (new opening) cs)) i noPosition .netted
+  -- and so is what makes a position: its member, security, side, delivery day and reference price
+  pub positions : map fresh (run (new opening) cs .positions) ≡ formedBy opening (acceptedEvents (new opening) cs)
+  -- it is what was delivered, bought in and settled in cash, summed over all pieces handed out in the list, by manner, and what is open
+  pub tallied : (i : ℕ) → i < length (run (new opening) cs .positions)
+      → getD (run (new opening) cs .positions) i noPosition .netted
+      ≡ sum (λ m. takenBy m (suc i) (handed (new opening) cs)) manners + getD (run (new opening) cs .positions) i noPosition .unsettled
+  -- each account is the charging rules summed over the list
+  pub accounts' : (k : ℕ) → k < ACCOUNTS → balance (run (new opening) cs) k ≡ subℕ (creditOf k (allCharges (new opening) cs)) (debitOf k (allCharges (new opening) cs))
+  -- all 64 add up to zero
+  pub zero-sum : sumℤ (balance (run (new opening) cs)) (range 0 ACCOUNTS) ≡ pos 0
+  -- "No account can leave plus or minus 10^17 cents"
+  pub small : (k : ℕ) → Small (run (new opening) cs) k
+  -- "512 trades a book make at most 1,024 positions."
+  pub few : length (run (new opening) cs .positions) ≤ POSITIONS
+  -- at most sixteen awards for each of sixteen attempts a day
+  pub few-awards : length (run (new opening) cs .awards) ≤ AWARDS
+  -- what else holds of the book
+  pub holds : Sound (run (new opening) cs)
+  -- a next call that is a discharge and is accepted hands out pieces that add up to its quantity, from that short to due longs of its security
+  pub discharges : (c : Call) → refusal (run (new opening) cs) c ≡ 0 → isDischarge (eventOf c) ≡ true → Discharge (run (new opening) cs) c (shortOf (run (new opening) cs) (eventOf c))
+  -- a next call that is refused changes nothing and hands out nothing
+  pub refuses : (c : Call) → refusal (run (new opening) cs) c ≢ 0 → Refused (run (new opening) cs) c

@@ -1,0 +1,18 @@
+-- `player::print_page` meets its contract.
+use mathlib.Core.Path.{sym}
+use lib.Seq.{length-take-le}
+use borrow.Author.Needs.{needs}
+use Rattle.player.proofs.print_page.Statement.{statement}
+use Rattle.player.proofs.print_page.Tie as tie
+
+slice-aggregate-write-all : tie.Need-slice-aggregate-write-all
+slice-aggregate-write-all c = sym (length-take-le _ _ (c .before .before .pre))
+
+write-all-requires : tie.Need-write-all-requires
+write-all-requires c κs = search needs
+
+returns : tie.Need-returns
+returns c = search needs
+
+pub print-page-spec : {M : Type 1} → statement M
+print-page-spec = tie.close (tie.spec slice-aggregate-write-all write-all-requires returns)

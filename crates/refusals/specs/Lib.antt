@@ -1,4 +1,0 @@
-pub mod Entering
-pub mod Auctions
-pub mod Discharging
-pub mod Closing
