@@ -1,7 +1,7 @@
 //! Named checks: each compares many answers of the desk with the second implementation and counts as one test.
 
 use crate::desk::Answer;
-use crate::random::Random;
+use fails_book_tests::random::Random;
 use std::collections::BTreeMap;
 use std::fmt::Debug;
 

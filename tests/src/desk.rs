@@ -1,6 +1,6 @@
 //! The static library `desk`: its functions as declared there, and safe wrappers.
 
-use crate::refusal::Refusal;
+use second::refusal::Refusal;
 
 mod library {
     #[link(name = "desk", kind = "static")]

@@ -7,10 +7,10 @@ mod check;
 mod compare;
 mod desk;
 mod probe;
+mod xml;
 
-use calendar::Calendar;
 use check::{Round, Tests};
-use second::{calendar, charges, events, histories, player, random, refusal, register, transcript, windows};
+use second::calendar::Calendar;
 use std::process::ExitCode;
 use std::time::{SystemTime, UNIX_EPOCH};
 
@@ -25,7 +25,7 @@ fn main() -> ExitCode {
             return ExitCode::from(2);
         }
     };
-    let calendar = Calendar::new();
+    let calendar = Calendar::of_the_century();
     let mut tests = Tests::default();
 
     compare::charges::exhaustive(&mut tests);
@@ -36,6 +36,11 @@ fn main() -> ExitCode {
     compare::sheets::exhaustive(&mut tests);
     compare::lines::exhaustive(&mut tests);
     compare::text::exhaustive(&mut tests);
+    compare::words::exhaustive(&mut tests);
+    compare::walk::exhaustive(&mut tests);
+    compare::csv::exhaustive(&mut tests);
+    compare::html::exhaustive(&mut tests);
+    compare::play::exhaustive(&mut tests);
     for seed in [FIXED_SEED, seed] {
         println!("seed {seed}");
         let mut round = Round { tests: &mut tests, seed };
@@ -47,6 +52,11 @@ fn main() -> ExitCode {
         compare::sheets::seeded(&mut round);
         compare::lines::seeded(&mut round);
         compare::text::seeded(&mut round);
+        compare::words::seeded(&mut round);
+        compare::walk::seeded(&mut round);
+        compare::csv::seeded(&mut round);
+        compare::html::seeded(&mut round);
+        compare::play::seeded(&mut round);
     }
 
     println!("{} passed, {} failed", tests.passed, tests.failed);

@@ -7,12 +7,12 @@
 //! on day 2. The first trade in each security is large: its long is the first in line and takes all that is discharged,
 //! so that a discharge is one piece on that long at every number of positions.
 
-use crate::book::{GREATEST_QUANTITY, MOST_ATTEMPTS, MOST_OFFERS, MOST_TRADES};
-use crate::events::{file_of, Event, MOST_EVENTS};
 use crate::histories::registers::with_classes;
 use crate::random::Random;
-use crate::refusal::Refusal;
-use crate::register::{self, Security};
+use second::book::{GREATEST_QUANTITY, MOST_ATTEMPTS, MOST_OFFERS, MOST_TRADES};
+use second::events::{file_of, Event, MOST_EVENTS};
+use second::refusal::Refusal;
+use second::register::{self, Security};
 
 pub const POSITIONS: [usize; 3] = [64, 256, 1_022];
 

@@ -9,6 +9,7 @@ ghost use Rattle.events.specs.File.{eventsOf};
 ghost use Rattle.calls.specs.View.{numbers, Held};
 ghost use Rattle.replay.specs.Replay.{PlayedUpTo, NewlyHeld};
 use calls::Core;
+use libc::STDERR_FILENO;
 use libc::STDIN_FILENO;
 use libc::STDOUT_FILENO;
 
@@ -19,11 +20,13 @@ fn blank_page() -> [u8; 131072]
     [0u8; 131072]
 }
 
-// The used bytes of a page.
+// The used bytes of a page. A program has no status of its own, so a write that fails is said on standard error.
 fn print_page(page: &[u8], used: usize)
     requires { ⌜ used ≤ length (now page) ⌝ }
 {
-    io::write_all(STDOUT_FILENO, &page[..used]);
+    if !io::write_all(STDOUT_FILENO, &page[..used]) {
+        io::write_all(STDERR_FILENO, b"player: the output could not be written\n");
+    }
 }
 
 fn print_refusal(number: u8) {

@@ -2,13 +2,15 @@
 //! Both are programs of their own with the same input on standard input; with the argument --play this program is the
 //! second one.
 
-use second::random::Random;
-use second::scaling::{Kind, Pair, KINDS, MOST_BEFORE_TRADES, POSITIONS};
-use second::{histories, player, transcript};
+use fails_book_tests::histories;
+use fails_book_tests::random::Random;
+use fails_book_tests::scaling::{Kind, Pair, KINDS, MOST_BEFORE_TRADES, POSITIONS};
+use second::transcript;
 use std::fmt::Display;
 use std::io::{self, Read, Write};
 use std::process::{Command, ExitCode};
 use std::time::{Duration, Instant};
+use tools::player;
 
 const RUNS: usize = 101;
 const CLOSES: u16 = 2_000;
@@ -132,7 +134,7 @@ impl Entry {
     /// The inputs, once the player has accepted and refused what it is meant to.
     fn new(name: &str, Pair { inputs, events }: Pair) -> io::Result<Entry> {
         for input in &inputs {
-            let transcript = player::output_of(&mut Command::new(player::path()), &input.bytes())?;
+            let transcript = player::play(&input.bytes())?;
             input.check(&transcript).map_err(|fault| io::Error::other(format!("{name}: {fault}")))?;
         }
         Ok(Entry { inputs: inputs.map(|input| input.bytes()), events, times: Times::default() })

@@ -2,10 +2,10 @@
 #![allow(clippy::inconsistent_digit_grouping)]
 
 use super::hex;
-use crate::calendar::Calendar;
 use crate::check::{Check, Round, Tests};
 use crate::desk::{self, Answer};
-use crate::random::Random;
+use fails_book_tests::random::Random;
+use second::calendar::Calendar;
 use std::collections::BTreeSet;
 
 const FIRST: u32 = 2000_01_01;

@@ -1,8 +1,9 @@
 //! Day windows, prices, fees and fines.
 
 use crate::check::{Check, Round, Tests};
-use crate::random::Random;
-use crate::{charges, desk, windows};
+use crate::desk;
+use fails_book_tests::random::Random;
+use second::{charges, windows};
 
 const CLASSES: [u8; 6] = [0, 1, 2, 3, 4, 255];
 

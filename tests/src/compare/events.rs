@@ -3,10 +3,10 @@
 use super::{hex, Hex};
 use crate::check::{Check, Round, Tests};
 use crate::desk::{self, Answer};
-use crate::events::{self, Body, Event, MOST_EVENTS, WIDTH};
-use crate::histories::{damage, random_event};
-use crate::random::Random;
-use crate::refusal::Refusal;
+use fails_book_tests::histories::{damage, random_event};
+use fails_book_tests::random::Random;
+use second::events::{self, Body, Event, MOST_EVENTS, WIDTH};
+use second::refusal::Refusal;
 
 /// Bytes kept free on either side of a page, which no call may touch.
 const MARGIN: usize = 40;
@@ -192,7 +192,7 @@ fn random_files_and_page_sizes(check: &mut Check, random: &mut Random) {
 }
 
 fn second(file: &[u8]) -> Result<u32, Refusal> {
-    events::read(file).map(|events| events.len() as u32)
+    Ok(events::read(file)?.len() as u32)
 }
 
 fn read(check: &mut Check, file: &[u8]) {
@@ -211,6 +211,7 @@ fn copy(check: &mut Check, random: &mut Random, file: &[u8], size: usize) {
     let [mut desk_bytes, mut second_bytes] = [before.clone(), before.clone()];
     let desk = desk::copy_file(file, &mut desk_bytes[page.clone()]);
     let second: Answer = events::read(file)
+        .map_err(Refusal::from)
         .and_then(|events| events::write(&events, &mut second_bytes[page.clone()]))
         .map(|written| written as u32)
         .into();

@@ -2,11 +2,11 @@
 
 use super::player::{bought_in_below, example, input, shown, squeeze};
 use crate::check::{Check, Round, Tests};
-use crate::events::{file_of, Event};
-use crate::histories;
 use crate::probe;
-use crate::random::Random;
-use crate::transcript;
+use fails_book_tests::histories;
+use fails_book_tests::random::Random;
+use second::events::{file_of, Event};
+use second::transcript;
 
 /// A page with fewer bytes takes no line.
 const LEAST_PAGE: usize = 82_000;

@@ -2,14 +2,20 @@
 
 pub mod calendar;
 pub mod charges;
+pub mod csv;
 pub mod events;
+pub mod html;
 pub mod lines;
+pub mod play;
 pub mod player;
 pub mod register;
 pub mod sheets;
 pub mod text;
+pub mod walk;
+pub mod words;
 
-use std::fmt;
+use crate::check::Check;
+use std::fmt::{self, Debug};
 
 fn hex(bytes: &[u8]) -> String {
     bytes.iter().map(|byte| format!("{byte:02x}")).collect()
@@ -23,4 +29,29 @@ impl fmt::Debug for Hex {
     fn fmt(&self, to: &mut fmt::Formatter) -> fmt::Result {
         to.write_str(&hex(&self.0))
     }
+}
+
+/// The harness heads two answers `desk` and `second`; here neither is, so each says what it is.
+#[derive(Debug)]
+enum Value<T> {
+    Found(T),
+    Wanted(T),
+}
+
+impl<T> Value<T> {
+    fn content(&self) -> &T {
+        match self {
+            Value::Found(content) | Value::Wanted(content) => content,
+        }
+    }
+}
+
+impl<T: PartialEq> PartialEq for Value<T> {
+    fn eq(&self, other: &Value<T>) -> bool {
+        self.content() == other.content()
+    }
+}
+
+fn same<T: PartialEq + Debug>(check: &mut Check, input: impl Fn() -> String, found: T, wanted: T) {
+    check.same(input, Value::Found(found), Value::Wanted(wanted));
 }

@@ -3,12 +3,12 @@
 use super::hex;
 use crate::check::{Check, Round, Tests};
 use crate::desk::Answer;
-use crate::events::{file_of, Event};
-use crate::histories::{self, survey::Survey};
-use crate::register::bytes_of;
-use crate::{player, transcript};
+use fails_book_tests::histories::{self, survey::Survey};
+use second::events::{file_of, Event};
+use second::register::bytes_of;
+use second::transcript;
 use std::hash::{DefaultHasher, Hash, Hasher};
-use std::process::Command;
+use tools::player;
 
 /// What a file can meet: every refusal of register, file and call but for 8, as the player's sheets suffice, and 26, as
 /// no file has enough closes.
@@ -170,7 +170,7 @@ pub fn input(class: u8, events: &[Event]) -> Vec<u8> {
 
 fn output(input: &[u8]) -> Vec<u8> {
     // An error is compared as if it were printed, and differs.
-    player::output_of(&mut Command::new(player::path()), input).unwrap_or_else(|error| error.to_string().into_bytes())
+    player::play(input).unwrap_or_else(|error| error.to_string().into_bytes())
 }
 
 fn compare(check: &mut Check, input: &[u8]) {

@@ -3,11 +3,11 @@
 use super::hex;
 use crate::check::{Check, Round, Tests};
 use crate::desk::{self, Answer};
-use crate::histories::damage;
-use crate::histories::registers::{completed, different, random_isin, CAPITALS, DIGITS};
-use crate::random::Random;
-use crate::refusal::Refusal;
-use crate::register::{self, bytes_of as register_of, Security};
+use fails_book_tests::histories::damage;
+use fails_book_tests::histories::registers::{completed, different, random_isin, CAPITALS, DIGITS};
+use fails_book_tests::random::Random;
+use second::refusal::Refusal;
+use second::register::{self, bytes_of as register_of, Security};
 
 /// Securities on the market, and the one of document 01's example.
 const REAL_ISINS: [&[u8; 12]; 24] = [
@@ -193,7 +193,7 @@ fn faults_of_two_entries(check: &mut Check) {
 }
 
 fn second(bytes: &[u8]) -> Result<u32, Refusal> {
-    register::read(bytes).map(|securities| securities.len() as u32)
+    Ok(register::read(bytes)?.len() as u32)
 }
 
 fn compare(check: &mut Check, bytes: &[u8]) {

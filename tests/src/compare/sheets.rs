@@ -4,10 +4,10 @@ use super::hex;
 use super::player::input;
 use crate::check::{Check, Round, Tests};
 use crate::desk::Answer;
-use crate::events::Event;
-use crate::histories;
 use crate::probe;
-use crate::transcript;
+use fails_book_tests::histories;
+use second::events::Event;
+use second::transcript;
 
 const SHEETS: [u32; 6] = [0, 1, 1_023, 1_024, 1_025, 65_536];
 

@@ -1,22 +1,19 @@
-//! The player's input as text and its output in words: the examples for people, and known and random inputs.
+//! The player's input as text: the examples for people, and known and random inputs.
 
-use super::{hex, Hex};
+use super::{hex, same, Hex};
 use crate::check::{Check, Round, Tests};
-use crate::histories::{self, random_event};
-use crate::random::Random;
-use crate::refusal::Refusal;
-use crate::register::Security;
-use crate::{player, transcript};
-use second::text::{self, Input};
-use std::fmt::Debug;
-use std::process::Command;
+use fails_book_tests::histories::{self, random_event};
+use fails_book_tests::random::Random;
+use second::register::Security;
+use second::transcript;
+use tools::player;
+use tools::text::{self, Input};
 
 struct Example {
     name: &'static str,
     text: &'static str,
     binary: &'static [u8],
     output: &'static str,
-    words: &'static str,
 }
 
 const EXAMPLE: Example = Example {
@@ -24,7 +21,6 @@ const EXAMPLE: Example = Example {
     text: include_str!("../../../examples/example.txt"),
     binary: include_bytes!("../../../examples/example.bin"),
     output: include_str!("../../../examples/example.out"),
-    words: include_str!("../../../examples/example.words"),
 };
 
 const SQUEEZE: Example = Example {
@@ -32,7 +28,6 @@ const SQUEEZE: Example = Example {
     text: include_str!("../../../examples/squeeze.txt"),
     binary: include_bytes!("../../../examples/squeeze.bin"),
     output: include_str!("../../../examples/squeeze.out"),
-    words: include_str!("../../../examples/squeeze.words"),
 };
 
 /// A register of one security, as a line.
@@ -47,17 +42,11 @@ pub fn exhaustive(tests: &mut Tests) {
     });
     tests.check("text: the player's output on the examples", &[], |check| {
         for Example { name, binary, output, .. } in [EXAMPLE, SQUEEZE] {
-            let player = player::output_of(&mut Command::new(player::path()), binary);
+            let player = player::play(binary);
             let player = player.map_or_else(|error| error.to_string(), readable);
             let second = readable(transcript::transcript(binary));
             check.known(|| format!("{name}.bin"), player, second, output.to_string());
         }
-    });
-    tests.check("text: the examples, and ones, in words", &[], |check| {
-        for Example { name, text, output, words, .. } in [EXAMPLE, SQUEEZE] {
-            same(check, || name.to_string(), words_of(text, output), Ok(words.to_string()));
-        }
-        same(check, || ONES.to_string(), words_of(ONES, ONES_OUTPUT), Ok(ONES_WORDS.to_string()));
     });
     tests.check("text: other spellings", &[], |check| {
         for (spelling, plain) in SPELLINGS {
@@ -69,8 +58,6 @@ pub fn exhaustive(tests: &mut Tests) {
     tests.check("text: the largest number of each field", &[], largest_numbers);
     tests.check("text: the most securities and events", &[], most_of_all);
     tests.check("text: bytes that have no text", &[], bytes_without_text);
-    tests.check("text: outputs of other inputs", &[], other_outputs);
-    tests.check("text: each refusal in words", &[], refusals_in_words);
 }
 
 pub fn seeded(round: &mut Round) {
@@ -85,14 +72,6 @@ pub fn seeded(round: &mut Round) {
         }
     });
     round.check("text: damaged inputs", &[], damaged_inputs);
-    round.check("text: histories in words", &[], |check, random| {
-        for _ in 0..400 {
-            let bytes = histories::any(random);
-            if let Ok(input) = Input::from_bytes(&bytes) {
-                history_in_words(check, random, &input);
-            }
-        }
-    });
 }
 
 fn most_of_all(check: &mut Check) {
@@ -139,40 +118,6 @@ fn damaged_inputs(check: &mut Check, random: &mut Random) {
     check.reached("an input that has a text", with_text);
     check.reached("an input that has none", without_text);
 }
-
-/// Quantities and amounts of one; nothing here is compared with what a book would answer.
-const ONES: &str = "\
-security 1 XX0000000002
-trade 1 2 1 1 1
-offer 1 3 1 1
-award 1
-confirm 1
-cash 1
-";
-
-const ONES_OUTPUT: &str = "\
-e 1 0 1
-e 2 0 1
-e 3 0 1
-e 4 0 1
-p 1 2 1 0
-e 5 0 1
-p 1 2 1 1
-a 0 1
-a 1 -1
-";
-
-const ONES_WORDS: &str = "\
-1. trade: member 1 sells 1 unit of security 1 at 1 to member 2: accepted
-2. offer on position 1: member 3 offers 1 unit at 1: accepted
-3. award on position 1: 1 unit awarded
-4. confirmation of award 1: 1 unit bought in
-   1 unit from position 1 to position 2
-5. cash settlement of position 1: 1 unit
-   1 unit from position 1 to position 2 for 1 cent
-account 0, the house: 1 cent
-account 1, member 1: -1 cent
-";
 
 /// A spelling and the text that is written for it.
 const SPELLINGS: [(&str, &str); 6] = [
@@ -318,159 +263,6 @@ fn bytes_without_text(check: &mut Check) {
     same(check, || hex(&empty), again(&empty), Err(message));
 }
 
-/// What is changed in the example's output, to what, and why it is then not the example's.
-const OTHER_OUTPUTS: [(&str, &str, &str); 22] = [
-    ("e 1 0 100\n", "e 1 0 99\n", "output line 1: the quantity is not the event's"),
-    ("e 1 0 100\n", "e 1 0 0100\n", "output line 1: the player prints no such line: \"e 1 0 0100\\n\""),
-    ("e 2 0 0\n", "", "output line 2: event 2 should be here"),
-    ("e 2 0 0\n", "e 2 0 1\n", "output line 2: the quantity is not the event's"),
-    ("e 2 0 0\n", "e 2 0 0\np 1 2 100 0\n", "output line 3: event 3 should be here"),
-    ("e 3 0 0\n", "e 3 7 0\n", "output line 3: no call is refused like this"),
-    ("e 3 0 0\n", "e 3 27 0\n", "output line 3: no call is refused like this"),
-    ("e 3 0 0\n", "e 3 17 1\n", "output line 3: no call is refused like this"),
-    ("p 1 2 100 0\n", "", "output line 4: the pieces do not make up the quantity"),
-    ("p 1 2 100 0\n", "p 1 2 99 0\n", "output line 4: the pieces do not make up the quantity"),
-    ("p 1 2 100 0\n", "p 1 2 101 0\n", "output line 5: the piece is not one of this event's"),
-    ("p 1 2 100 0\n", "p 1 2 100 1\n", "output line 5: the piece is not one of this event's"),
-    ("p 1 2 100 0\n", "p 2 1 100 0\n", "output line 5: the piece is not one of this event's"),
-    ("s 1 1 D", "s 2 1 D", "output line 6: position 1 should be here"),
-    ("s 1 1 D 100 100", "s 1 1 D 100 99", "output line 6: the quantities do not make up the netted one"),
-    (
-        "R 100 100 0 0 0\n",
-        "R 100 100 0 0 0",
-        "output line 7: the player prints no such line: \"s 2 2 R 100 100 0 0 0\"",
-    ),
-    ("0 0 0\ns 2", "0 0 0\na 1 5\ns 2", "output line 8: the output should have ended"),
-    ("R 100 100 0 0 0\n", "R 100 100 0 0 0\na 64 5\n", "output line 8: an account from 0 to 63 should be here"),
-    ("R 100 100 0 0 0\n", "R 100 100 0 0 0\na 2 0\n", "output line 8: an account of 0 cents is not printed"),
-    ("R 100 100 0 0 0\n", "R 100 100 0 0 0\na 2 5\na 2 -5\n", "output line 9: an account from 3 to 63 should be here"),
-    ("e 1 0 100\n", "f 4\n", "output line 2: the output should have ended"),
-    ("e 1 0 100\n", "f 8\n", "output line 1: no input is refused with this number"),
-];
-
-fn other_outputs(check: &mut Check) {
-    for (from, to, message) in OTHER_OUTPUTS {
-        let output = EXAMPLE.output.replacen(from, to, 1);
-        same(check, || output.clone(), words_of(EXAMPLE.text, &output), Err(message.to_string()));
-    }
-    let cut_off = "e 1 0 100\n";
-    let message = "the output ends, and event 2 should be here".to_string();
-    same(check, || cut_off.to_string(), words_of(EXAMPLE.text, cut_off), Err(message));
-}
-
-/// A word that the reason for each refusal must have, by which it is told from its neighbours.
-const REASONS: [(Refusal, &str); 26] = [
-    (Refusal::RegisterSize, "register's count"),
-    (Refusal::Class, "class"),
-    (Refusal::Isin, "malformed"),
-    (Refusal::RepeatedIsin, "earlier"),
-    (Refusal::FileSize, "file's count"),
-    (Refusal::Kind, "kind"),
-    (Refusal::Spare, "spare"),
-    (Refusal::SheetSize, "sheet"),
-    (Refusal::Member, "member"),
-    (Refusal::Security, "registered"),
-    (Refusal::NotThere, "not there"),
-    (Refusal::Quantity, "quantity"),
-    (Refusal::Price, "10,000,000"),
-    (Refusal::SellerIsBuyer, "buyer"),
-    (Refusal::TradesFull, "512"),
-    (Refusal::Long, "long"),
-    (Refusal::Window, "window"),
-    (Refusal::Auction, "auction"),
-    (Refusal::NoPrice, "never had a price"),
-    (Refusal::Attempts, "attempts"),
-    (Refusal::Failing, "failing"),
-    (Refusal::Ceiling, "ceiling"),
-    (Refusal::OffersFull, "offers are in"),
-    (Refusal::NotFree, "free"),
-    (Refusal::Confirmed, "confirmed"),
-    (Refusal::LastDay, "9,999"),
-];
-
-fn refusals_in_words(check: &mut Check) {
-    let text = format!("{SECURITY}award 1\n");
-    for (refusal, word) in REASONS {
-        let number = refusal as u32;
-        let of_input = number <= 7;
-        let output = if of_input { format!("f {number}\n") } else { format!("e 1 {number} 0\n") };
-        let start = if of_input { "the input is refused: " } else { "1. award on position 1: refused, " };
-        let words = words_of(&text, &output).unwrap_or_else(|message| message);
-        let reason = words.strip_prefix(start).and_then(|rest| rest.strip_suffix(&format!(" ({number})\n")));
-        let said = reason.is_some_and(|reason| reason.contains(word));
-        same(check, || format!("{output:?} in words: {words:?}, with {word:?}"), said, true);
-    }
-    let repeated = "the input is refused: an ISIN stands earlier in the register (4)\n";
-    same(check, || "f 4".to_string(), words_of(&text, "f 4\n"), Ok(repeated.to_string()));
-}
-
-/// What is put in one place of an output: parts of other lines.
-const CHANGES: [&str; 18] = [
-    "",
-    "0",
-    "1",
-    "2",
-    "9",
-    "-",
-    " ",
-    "\n",
-    "e",
-    "p",
-    "s",
-    "a",
-    "f",
-    "D",
-    "R",
-    "\na 9 1",
-    "\np 1 2 1 0",
-    "1 0\ne 2 0 ",
-];
-
-/// The words of the history's own output, a line for each of its lines, and those of an output changed in one place,
-/// which must not read the same.
-fn history_in_words(check: &mut Check, random: &mut Random, input: &Input) {
-    let output = transcript::transcript(&input.bytes());
-    let words = text::words(input, &output);
-    let lines = |bytes: &[u8]| bytes.iter().filter(|&&byte| byte == b'\n').count();
-    let found = words.as_ref().map(|words| lines(words.as_bytes()));
-    same(check, || hex(&input.bytes()), found, Ok(lines(&output)));
-    for _ in 0..20 {
-        let mut changed = output.clone();
-        let from = random.below(output.len() + 1);
-        let to = output.len().min(from + random.below(2));
-        changed.splice(from..to, random.pick(&CHANGES).bytes());
-        if changed != output {
-            let shown = || format!("{} with output {:?}", hex(&input.bytes()), String::from_utf8_lossy(&changed));
-            same(check, shown, text::words(input, &changed) == words, false);
-        }
-    }
-}
-
-/// The harness heads two answers `desk` and `second`; here neither is, so each says what it is.
-#[derive(Debug)]
-enum Value<T> {
-    Found(T),
-    Wanted(T),
-}
-
-impl<T> Value<T> {
-    fn content(&self) -> &T {
-        match self {
-            Value::Found(content) | Value::Wanted(content) => content,
-        }
-    }
-}
-
-impl<T: PartialEq> PartialEq for Value<T> {
-    fn eq(&self, other: &Value<T>) -> bool {
-        self.content() == other.content()
-    }
-}
-
-fn same<T: PartialEq + Debug>(check: &mut Check, input: impl Fn() -> String, found: T, wanted: T) {
-    check.same(input, Value::Found(found), Value::Wanted(wanted));
-}
-
 fn readable(bytes: Vec<u8>) -> String {
     String::from_utf8_lossy(&bytes).into_owned()
 }
@@ -489,10 +281,6 @@ fn written(text: &str) -> Result<String, String> {
     text::read(text.as_bytes()).and_then(|input| text::write(&input))
 }
 
-fn words_of(text: &str, output: &str) -> Result<String, String> {
-    text::read(text.as_bytes()).and_then(|input| text::words(&input, output.as_bytes()))
-}
-
 /// Any classes, any ISINs that text can hold and events of all kinds with any fields.
 fn random_input(random: &mut Random, securities: usize, events: usize) -> Input {
     let register = (0..securities).map(|_| random_security(random)).collect();
@@ -501,7 +289,7 @@ fn random_input(random: &mut Random, securities: usize, events: usize) -> Input 
         let kind = random.between(1, 9) as u8;
         events_of_kinds.push(random_event(random, kind));
     }
-    Input { register, events: events_of_kinds }
+    Input { register, events: events_of_kinds, ..Input::default() }
 }
 
 fn random_security(random: &mut Random) -> Security {

@@ -2,10 +2,10 @@
 
 use super::fitting::number;
 use super::History;
-use crate::book::{Book, Side, GREATEST_PRICE, GREATEST_QUANTITY, MEMBERS};
-use crate::events::Event;
 use crate::random::Random;
-use crate::windows::Step;
+use second::book::{Book, Side, GREATEST_PRICE, GREATEST_QUANTITY, MEMBERS};
+use second::events::Event;
+use second::windows::Step;
 
 /// An event of the kind, whose fields have any value.
 pub fn random_event(random: &mut Random, kind: u8) -> Event {

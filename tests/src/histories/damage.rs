@@ -1,8 +1,8 @@
 //! Damaged inputs, for the refusals of register and file.
 
 use super::registers::{CAPITALS, DIGITS};
-use crate::events::WIDTH;
 use crate::random::Random;
+use second::events::WIDTH;
 
 /// Damage that any bytes can suffer on their way.
 pub fn damage(random: &mut Random, bytes: &mut Vec<u8>) {

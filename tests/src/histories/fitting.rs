@@ -1,11 +1,11 @@
 //! Events that fit the state of the book, so that it accepts them.
 
 use super::History;
-use crate::book::{
+use second::book::{
     Book, Side, Trade, GREATEST_PRICE, GREATEST_QUANTITY, MEMBERS, MOST_ATTEMPTS, MOST_OFFERS, MOST_TRADES,
 };
-use crate::events::Event;
-use crate::windows::Step;
+use second::events::Event;
+use second::windows::Step;
 
 impl History<'_> {
     pub(super) fn fitting_trade(&mut self) -> Option<Event> {

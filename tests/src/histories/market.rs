@@ -1,8 +1,8 @@
 //! A market: members trade for some days, and what is due is delivered, bought in, settled in cash or left.
 
 use super::History;
-use crate::book::MOST_OFFERS;
-use crate::events::Event;
+use second::book::MOST_OFFERS;
+use second::events::Event;
 
 /// The steps of a market without an auction. A step that finds nothing to do leaves the turn to the next choice.
 const STEPS: [fn(&mut History); 8] = [

@@ -13,10 +13,10 @@ pub use contrary::random_event;
 pub use damage::{damage, damaged};
 pub use scenes::{any, closes, discharge_on_day, full_book, full_book_in_cash, long, mixed};
 
-use crate::book::{Book, MEMBERS, SHEET_PLACES};
-use crate::events::{file_of, Event};
 use crate::random::Random;
-use crate::register::{self, Security};
+use second::book::{Book, MEMBERS, SHEET_PLACES};
+use second::events::{file_of, Event};
+use second::register::{self, Security};
 
 pub struct History<'a> {
     random: &'a mut Random,

@@ -1,7 +1,7 @@
 //! Registers that pass.
 
 use crate::random::Random;
-use crate::register::{self, Security};
+use second::register::{self, Security};
 
 pub const CAPITALS: &[u8; 26] = b"ABCDEFGHIJKLMNOPQRSTUVWXYZ";
 pub const DIGITS: &[u8; 10] = b"0123456789";

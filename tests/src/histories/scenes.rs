@@ -3,9 +3,9 @@
 use super::fitting::number;
 use super::registers::{different, with_classes};
 use super::{damaged, random_event, History};
-use crate::book::{MEMBERS, MOST_ATTEMPTS, MOST_TRADES};
-use crate::events::{Event, MOST_EVENTS};
 use crate::random::Random;
+use second::book::{MEMBERS, MOST_ATTEMPTS, MOST_TRADES};
+use second::events::{Event, MOST_EVENTS};
 use std::collections::HashSet;
 
 /// Any input, most often of a few hundred events at most.

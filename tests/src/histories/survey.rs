@@ -1,10 +1,10 @@
 //! Counts the states that histories reach, so that a comparison can want each of them.
 
-use crate::book::{Answer, Auction, Award, Book, Piece, Position, Side, MOST_ATTEMPTS, SHEET_PLACES};
-use crate::charges;
-use crate::events::{Event, MOST_EVENTS};
-use crate::refusal::Refusal;
-use crate::transcript::open;
+use second::book::{Answer, Auction, Award, Book, Piece, Position, Side, MOST_ATTEMPTS, SHEET_PLACES};
+use second::charges;
+use second::events::{Event, MOST_EVENTS};
+use second::refusal::Refusal;
+use second::transcript::open;
 
 /// The times each state was reached.
 pub struct Survey {

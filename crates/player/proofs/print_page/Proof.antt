@@ -1,5 +1,5 @@
 -- `player::print_page` meets its contract.
-use mathlib.Core.Path.{sym}
+use mathlib.Core.Path.{refl, sym}
 use lib.Seq.{length-take-le}
 use borrow.Author.Needs.{needs}
 use Rattle.player.proofs.print_page.Statement.{statement}
@@ -11,8 +11,17 @@ slice-aggregate-write-all c = sym (length-take-le _ _ (c .before .before .pre))
 write-all-requires : tie.Need-write-all-requires
 write-all-requires c κs = search needs
 
+slice-aggregate-write-all-2 : tie.Need-slice-aggregate-write-all-2
+slice-aggregate-write-all-2 c = refl
+
+write-all-requires-2 : tie.Need-write-all-requires-2
+write-all-requires-2 c κs = search needs
+
 returns : tie.Need-returns
 returns c = search needs
 
+returns-2 : tie.Need-returns-2
+returns-2 c = search needs
+
 pub print-page-spec : {M : Type 1} → statement M
-print-page-spec = tie.close (tie.spec slice-aggregate-write-all write-all-requires returns)
+print-page-spec = tie.close (tie.spec slice-aggregate-write-all write-all-requires slice-aggregate-write-all-2 write-all-requires-2 returns returns-2)

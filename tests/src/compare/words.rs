@@ -1,0 +1,313 @@
+//! A play in words: the examples, each reason for a refusal, charges that add up to the player's accounts, and outputs
+//! that are not the player's.
+
+use super::{hex, same};
+use crate::check::{Check, Round, Tests};
+use fails_book_tests::histories;
+use fails_book_tests::random::Random;
+use second::transcript;
+use std::collections::BTreeMap;
+use tools::check::Source;
+use tools::played::Played;
+use tools::words;
+
+/// An example's name, its text, the player's output and the words.
+const EXAMPLES: [(&str, &str, &str, &str); 2] = [
+    (
+        "example",
+        include_str!("../../../examples/example.txt"),
+        include_str!("../../../examples/example.out"),
+        include_str!("../../../examples/example.words"),
+    ),
+    (
+        "squeeze",
+        include_str!("../../../examples/squeeze.txt"),
+        include_str!("../../../examples/squeeze.out"),
+        include_str!("../../../examples/squeeze.words"),
+    ),
+];
+
+pub fn exhaustive(tests: &mut Tests) {
+    tests.check("words: the examples", &[], |check| {
+        for (name, text, output, words) in EXAMPLES {
+            same(check, || name.to_string(), words_of(text, output.as_bytes()), Ok(words.to_string()));
+        }
+    });
+    tests.check("words: known lines", &[], known_lines);
+    tests.check("words: each reason for a refusal", &[], |check| {
+        for (events, line) in REASONS {
+            same(check, || events.to_string(), last_refusal(events), Ok(line.to_string()));
+        }
+    });
+    tests.check("words: outputs cut off at each byte", &[], |check| {
+        for (name, text, output, _) in EXAMPLES {
+            for length in 0..output.len() {
+                let found = words_of(text, &output.as_bytes()[..length]).is_err();
+                same(check, || format!("{length} bytes of {name}.out"), found, true);
+            }
+        }
+    });
+    tests.check("words: outputs of other inputs", &[], other_outputs);
+}
+
+pub fn seeded(round: &mut Round) {
+    round.check("words: charges add up to the accounts", &[], |check, random| {
+        let mut charged = 0;
+        for _ in 0..400 {
+            charged += u64::from(adds_up(check, &histories::any(random)));
+        }
+        for which in 0..4 {
+            charged += u64::from(adds_up(check, &histories::long(random, which)));
+        }
+        check.reached("an account that is charged", charged);
+    });
+    round.check("words: outputs changed in one place", &[], |check, random| {
+        for _ in 0..200 {
+            let input = histories::any(random);
+            changed_outputs(check, random, &input);
+        }
+    });
+}
+
+/// Events on a register of one security of each class, and the line of words that the last refused one gets.
+const REASONS: [(&str, &str); 37] = [
+    ("trade 0 64 1 1 1", "trade: member 0 sells 1 unit of security 1 at 1 to member 64: refused, the seller 0 is not a member from 1 to 63, and the buyer 64 is not a member from 1 to 63 (9)"),
+    ("trade 1 64 1 1 1", "trade: member 1 sells 1 unit of security 1 at 1 to member 64: refused, the buyer 64 is not a member from 1 to 63 (9)"),
+    ("trade 1 2 4 1 1", "trade: member 1 sells 1 unit of security 4 at 1 to member 2: refused, security 4 is not registered; the register has 3 securities (10)"),
+    ("price 0 1", "price of 1 for security 0: refused, security 0 is not registered; the register has 3 securities (10)"),
+    ("delivery 1 1", "delivery of 1 from position 1: refused, position 1 is not there; there is none yet (11)"),
+    ("trade 1 2 1 1 1\nclose\ncash 3", "cash settlement of position 3: refused, position 3 is not there; there are positions 1 to 2 (11)"),
+    ("confirm 1", "confirmation of award 1: refused, award 1 is not there; none was made today (11)"),
+    ("AUCTION\nconfirm 2", "confirmation of award 2: refused, award 2 is not there; today has award 1 alone (11)"),
+    ("trade 1 2 1 0 1", "trade: member 1 sells 0 units of security 1 at 1 to member 2: refused, the quantity is 0 (12)"),
+    ("trade 1 2 1 1000001 1", "trade: member 1 sells 1,000,001 units of security 1 at 1 to member 2: refused, the quantity is above 1,000,000 (12)"),
+    ("DUE\ndelivery 1 0", "delivery of 0 from position 1: refused, the quantity is 0 (12)"),
+    ("price 1 0", "price of 0 for security 1: refused, the price is 0 (13)"),
+    ("price 1 10000001", "price of 10,000,001 for security 1: refused, the price is above 10,000,000 (13)"),
+    ("trade 1 1 1 1 1", "trade: member 1 sells 1 unit of security 1 at 1 to member 1: refused, seller is buyer (14)"),
+    ("FULL\ntrade 1 2 1 1 1", "trade: member 1 sells 1 unit of security 1 at 1 to member 2: refused, 512 trades are held (15)"),
+    ("DUE\ndelivery 2 1", "delivery of 1 from position 2: refused, position 2 is long (16)"),
+    ("trade 1 2 1 1 1\nclose\ndelivery 1 1", "delivery of 1 from position 1: refused, outside the window: the position falls due on day 3 (17)"),
+    ("DUE\nattempt 1", "attempt on position 1: refused, outside the window: today is 0 days after the delivery day, 3, and an attempt is made on days 5 to 7 after it (17)"),
+    ("DUE\nclose\ncash 1", "cash settlement of position 1: refused, outside the window: today is 1 day after the delivery day, 3, and a cash settlement is made from day 8 after it on (17)"),
+    ("trade 1 2 2 1 1\nclose\nattempt 1", "attempt on position 1: refused, outside the window: the position falls due on day 3, and an attempt is made on days 27, 37, 47 and so on after it (17)"),
+    ("trade 1 2 3 1 1\nclose\ncash 1", "cash settlement of position 1: refused, outside the window: the position falls due on day 3, and a cash settlement is made on days 30 to 36, 40 to 46, 50 to 56 and so on after it (17)"),
+    ("OPEN\nattempt 3", "attempt on position 3: refused, an auction runs, on position 1 (18)"),
+    ("OPEN\nclose", "close of day 8: refused, an auction runs, on position 1 (18)"),
+    ("OPEN\ndelivery 1 1", "delivery of 1 from position 1: refused, the auction runs on position 1 (18)"),
+    ("OPEN\naward 3", "award on position 3: refused, the auction runs on position 1 and not on position 3 (18)"),
+    ("DUE\noffer 1 3 1 1", "offer on position 1: member 3 offers 1 unit at 1: refused, no auction runs, so none on position 1 (18)"),
+    ("DUE\nclose 5\nattempt 1", "attempt on position 1: refused, security 1 never had a price (19)"),
+    ("AUCTION\nattempt 1", "attempt on position 1: refused, an attempt was opened on position 1 today (20)"),
+    ("SIXTEEN\nattempt 17", "attempt on position 17: refused, sixteen attempts were opened today (20)"),
+    ("OPEN\noffer 1 1 1 1", "offer on position 1: member 1 offers 1 unit at 1: refused, member 1 is failing in security 1 (21)"),
+    ("OPEN\noffer 1 9 1 201", "offer on position 1: member 9 offers 1 unit at 201: refused, the price 201 exceeds the ceiling, 200 (22)"),
+    ("OPEN\nOFFERS\noffer 1 9 1 1", "offer on position 1: member 9 offers 1 unit at 1: refused, 16 offers are in (23)"),
+    ("DUE\ndelivery 1 11", "delivery of 11 from position 1: refused, 10 units of position 1 are open (24)"),
+    ("AUCTION\ndelivery 1 8", "delivery of 8 from position 1: refused, 7 units of position 1 are free: 10 open, of which awards that are not confirmed take 3 (24)"),
+    ("price 1 100\nDUE\ndelivery 1 10\nclose 5\nattempt 1", "attempt on position 1: refused, nothing of position 1 is open (24)"),
+    ("price 1 100\nDUE\ndelivery 1 10\nclose 8\ncash 1", "cash settlement of position 1: refused, nothing of position 1 is open (24)"),
+    ("AUCTION\nconfirm 1\nconfirm 1", "confirmation of award 1: refused, award 1 is confirmed already (25)"),
+];
+
+const REGISTER: &str = "security 1 XX0000000002\nsecurity 2 XX0000000010\nsecurity 3 XX0000000028\n";
+
+/// The words in capitals of `REASONS` stand for the events that lead to a state.
+fn events_of(line: &str) -> String {
+    let due = "trade 1 2 1 10 100\nclose\nclose";
+    let open = "price 1 100\ntrade 1 2 1 10 100\ntrade 3 4 1 10 100\nclose\nclose 6\nattempt 1";
+    match line {
+        "DUE" => due.to_string(),
+        "OPEN" => open.to_string(),
+        "AUCTION" => format!("{open}\noffer 1 9 3 50\naward 1"),
+        "OFFERS" => ["offer 1 9 1 1"; 16].join("\n"),
+        "FULL" => ["trade 1 2 1 1 1"; 512].join("\n"),
+        "SIXTEEN" => {
+            let trades: Vec<String> = (1..18).map(|seller| format!("trade {seller} 20 1 1 1")).collect();
+            let attempts: Vec<String> = (1..17).map(|short| format!("attempt {short}\naward {short}")).collect();
+            format!("price 1 100\n{}\nclose 7\n{}", trades.join("\n"), attempts.join("\n"))
+        }
+        event => event.to_string(),
+    }
+}
+
+/// The words of the last event, without its number, day and line.
+fn last_refusal(events: &str) -> Result<String, String> {
+    let events: Vec<String> = events.lines().map(events_of).collect();
+    let source = Source::of_text(format!("{REGISTER}{}\n", events.join("\n")).as_bytes())?;
+    let words = words::refused(&played(&source, &transcript::transcript(&source.bytes))?);
+    let last = words.lines().last().ok_or("no event is refused")?;
+    let number = format!("{}. ", transcript::read(&source.bytes).map_or(0, |(_, events)| events.len()));
+    let last = last.strip_prefix(&number).ok_or_else(|| format!("the last event is not refused: {last}"))?;
+    Ok(last.split_once(": ").ok_or("a line has a place")?.1.to_string())
+}
+
+/// Singular forms, a credit, class 3, and an account without a charge.
+fn known_lines(check: &mut Check) {
+    let text = "\
+security 3 XX0000000002
+price 1 100
+trade 1 2 1 1 99
+close 29
+attempt 1
+offer 1 3 1 98
+award 1
+confirm 1
+trade 1 2 1 1 101
+trade 4 5 1 1 1
+close 32
+cash 3
+attempt 5
+";
+    let output = Source::of_text(text.as_bytes()).map(|source| transcript::transcript(&source.bytes));
+    let words = output.and_then(|output| words_of(text, &output)).unwrap_or_else(|wrong| wrong);
+    let lines = [
+        "2. day 1, line 3: trade: member 1 sells 1 unit of security 1 at 99 to member 2: accepted",
+        "   the ceiling is 103",
+        "   award 1: 1 unit of member 3 at 98",
+        "35. day 30, line 8: confirmation of award 1: 1 unit bought in",
+        "   buy-in difference: the house pays member 1 1 cent: 1 unit of award 1 times (its price 98 minus reference price 99 of position 1)",
+        "70. day 62, line 12: cash settlement of position 3: 1 unit",
+        "   1 unit from position 3 (member 1) to position 4 (member 2) for 400 cents",
+        "   cash settlement: member 1 pays member 2 400 cents: 1 unit times 400, the highest of reference price 101 of position 3, reference price 101 of position 4 and the latest price 100 plus 300",
+        "position 3: member 1, short: 1 netted, 0 delivered, 0 bought in, 1 settled in cash, 0 open",
+        "account  holder     buy-in difference  cash settlement  cash settlement fee  unconfirmed award  late fine  cents in all",
+        "      0  the house                 -1                0               25,000                  0          0        24,999",
+        "      1  member 1                   1             -400              -25,000                  0          0       -25,399",
+        "      2  member 2                   0              400                    0                  0          0           400",
+    ];
+    for line in lines {
+        same(check, || format!("{line:?} in {words}"), words.lines().any(|found| found == line), true);
+    }
+    let example = words_of(EXAMPLES[0].1, EXAMPLES[0].2.as_bytes()).unwrap_or_else(|wrong| wrong);
+    same(check, || example.clone(), example.lines().last(), Some("no account was charged"));
+}
+
+/// What is changed in the example's output, to what, and what is said of it.
+const OTHER_OUTPUTS: [(&str, &str, &str); 9] = [
+    (
+        "e 1 0 100\n",
+        "e 1 0 99\n",
+        r#"output line 1: the player has "e 1 0 99\n", and the second implementation "e 1 0 100\n""#,
+    ),
+    ("e 2 0 0\n", "", r#"output line 2: the player has "e 3 0 0\n", and the second implementation "e 2 0 0\n""#),
+    (
+        "p 1 2 100 0\n",
+        "",
+        r#"output line 5: the player has "s 1 1 D 100 100 0 0 0\n", and the second implementation "p 1 2 100 0\n""#,
+    ),
+    (
+        "p 1 2 100 0\n",
+        "p 1 2 100 1\n",
+        r#"output line 5: the player has "p 1 2 100 1\n", and the second implementation "p 1 2 100 0\n""#,
+    ),
+    ("s 1 1 D 100 100 0 0 0\ns 2 2 R 100 100 0 0 0\n", "", "the output is cut off: it has 5 of 7 lines"),
+    ("s 2 2 R 100 100 0 0 0\n", "", "the output is cut off: it has 6 of 7 lines"),
+    (
+        "R 100 100 0 0 0\n",
+        "R 100 100 0 0 0",
+        r#"output line 7: the player has "s 2 2 R 100 100 0 0 0", and the second implementation "s 2 2 R 100 100 0 0 0\n""#,
+    ),
+    (
+        "R 100 100 0 0 0\n",
+        "R 100 100 0 0 0\na 2 5\n",
+        r#"output line 8: the output should have ended, and has "a 2 5\n""#,
+    ),
+    ("e 1 0 100\n", "f 4\n", r#"output line 1: the player has "f 4\n", and the second implementation "e 1 0 100\n""#),
+];
+
+fn other_outputs(check: &mut Check) {
+    let (_, text, output, _) = EXAMPLES[0];
+    for (from, to, message) in OTHER_OUTPUTS {
+        let output = output.replacen(from, to, 1);
+        same(check, || output.clone(), words_of(text, output.as_bytes()), Err(message.to_string()));
+    }
+    let (_, text, output, _) = EXAMPLES[1];
+    let output = output.replacen("a 1 -224595\n", "", 1);
+    let message = r#"output line 30: the player has "a 2 88000\n", and the second implementation "a 1 -224595\n""#;
+    same(check, || output.clone(), words_of(text, output.as_bytes()), Err(message.to_string()));
+}
+
+/// Whether the input is charged anything. The amounts that its words name, paid and received, are its accounts.
+fn adds_up(check: &mut Check, input: &[u8]) -> bool {
+    let output = transcript::transcript(input);
+    let Ok(played) = played(&Source::of_bytes(input.to_vec()), &output) else {
+        return false;
+    };
+    let words = words::words(&played);
+    let mut accounts: BTreeMap<String, i128> = BTreeMap::new();
+    for (payer, payee, cents) in words.lines().filter_map(payment) {
+        *accounts.entry(payer).or_default() -= cents;
+        *accounts.entry(payee).or_default() += cents;
+    }
+    accounts.retain(|_, cents| *cents != 0);
+    let printed = String::from_utf8_lossy(&output).lines().filter_map(account).collect();
+    same(check, || hex(input), &accounts, &printed);
+    !accounts.is_empty()
+}
+
+/// Who pays whom how many cents, if the line says so.
+fn payment(line: &str) -> Option<(String, String, i128)> {
+    let (_, said) = line.strip_prefix("   ")?.split_once(": ")?;
+    let (payer, rest) = said.split_once(" pays ")?;
+    let words: Vec<&str> = rest.split(' ').collect();
+    let (payee, cents) = match words[..] {
+        ["the", "house", cents, ..] => ("the house".to_string(), cents),
+        ["member", number, cents, ..] => (format!("member {number}"), cents),
+        _ => return None,
+    };
+    Some((payer.to_string(), payee, cents.replace(',', "").parse().ok()?))
+}
+
+/// The holder and the cents of an `a` line.
+fn account(line: &str) -> Option<(String, i128)> {
+    let (account, cents) = line.strip_prefix("a ")?.split_once(' ')?;
+    let holder = if account == "0" { "the house".to_string() } else { format!("member {account}") };
+    Some((holder, cents.parse().ok()?))
+}
+
+/// What is put in one place of an output: parts of other lines.
+const CHANGES: [&str; 18] = [
+    "",
+    "0",
+    "1",
+    "2",
+    "9",
+    "-",
+    " ",
+    "\n",
+    "e",
+    "p",
+    "s",
+    "a",
+    "f",
+    "D",
+    "R",
+    "\na 9 1",
+    "\np 1 2 1 0",
+    "1 0\ne 2 0 ",
+];
+
+/// No output that is changed in one place passes for the input's.
+fn changed_outputs(check: &mut Check, random: &mut Random, input: &[u8]) {
+    let source = Source::of_bytes(input.to_vec());
+    let output = transcript::transcript(input);
+    for _ in 0..20 {
+        let mut changed = output.clone();
+        let from = random.below(output.len() + 1);
+        let to = output.len().min(from + random.below(2));
+        changed.splice(from..to, random.pick(&CHANGES).bytes());
+        if changed != output {
+            let shown = || format!("{} with output {:?}", hex(input), String::from_utf8_lossy(&changed));
+            same(check, shown, Played::of(&source, &changed).is_err(), true);
+        }
+    }
+}
+
+fn words_of(text: &str, output: &[u8]) -> Result<String, String> {
+    played(&Source::of_text(text.as_bytes())?, output).map(|played| words::words(&played))
+}
+
+fn played(source: &Source, output: &[u8]) -> Result<Played, String> {
+    Played::of(source, output)?.map_err(|fault| fault.words)
+}

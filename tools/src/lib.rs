@@ -1,0 +1,17 @@
+//! What the desk runs: it plays files with the proved player and shows what it printed, in words, tables and pages.
+//!
+//! The second implementation plays each file too. Its lines must be the player's; then it also says why a call was
+//! refused, which positions a close made and what each charge comes from.
+
+pub mod check;
+pub mod csv;
+pub mod html;
+pub mod numbers;
+pub mod output;
+pub mod played;
+pub mod player;
+pub mod reasons;
+mod table;
+pub mod text;
+pub mod walk;
+pub mod words;

@@ -1,0 +1,192 @@
+//! Why a call was refused, in words: the one reason that applied, on the book that refused it.
+
+use crate::numbers::{counted, grouped};
+use second::book::{Book, Position, GREATEST_PRICE, GREATEST_QUANTITY, LAST_DAY, MEMBERS, MOST_OFFERS, MOST_TRADES};
+use second::events::Event;
+use second::refusal::Refusal;
+
+/// What the event names, in its fields.
+#[derive(Default)]
+struct Named {
+    security: u16,
+    short: u16,
+    award: u16,
+    members: Vec<(&'static str, u8)>,
+    quantity: u32,
+    price: u32,
+}
+
+fn named(event: &Event) -> Named {
+    match *event {
+        Event::Trade { security, seller, buyer, quantity, price } => {
+            Named { security, members: vec![("seller", seller), ("buyer", buyer)], quantity, price, ..Named::default() }
+        }
+        Event::Price { security, price } => Named { security, price, ..Named::default() },
+        Event::Delivery { short, quantity } => Named { short, quantity, ..Named::default() },
+        Event::Offer { short, offerer, quantity, price } => {
+            Named { short, members: vec![("offerer", offerer)], quantity, price, ..Named::default() }
+        }
+        Event::Attempt { short } | Event::Award { short } | Event::Cash { short } => {
+            Named { short, ..Named::default() }
+        }
+        Event::Confirm { award } => Named { award, ..Named::default() },
+        Event::Close => Named::default(),
+    }
+}
+
+pub fn reason(book: &Book, event: &Event, refusal: Refusal) -> String {
+    let named = named(event);
+    match refusal {
+        Refusal::Member => member(&named),
+        Refusal::Security => {
+            let registered = counted(book.securities.len() as u64, "security");
+            format!("security {} is not registered; the register has {registered}", grouped(named.security))
+        }
+        Refusal::NotThere => not_there(book, event, &named),
+        Refusal::Quantity => quantity(named.quantity),
+        Refusal::Price => price(named.price),
+        Refusal::SellerIsBuyer => "seller is buyer".to_string(),
+        Refusal::TradesFull => format!("{MOST_TRADES} trades are held"),
+        Refusal::Long => format!("position {} is long", grouped(named.short)),
+        Refusal::Window => window(book, event, named.short),
+        Refusal::Auction => auction(book, event, named.short),
+        Refusal::NoPrice => format!("security {} never had a price", security_of(book, named.short)),
+        Refusal::Attempts => attempts(book, named.short),
+        Refusal::Failing => {
+            let security = security_of(book, named.short);
+            format!("member {} is failing in security {security}", named.members[0].1)
+        }
+        Refusal::Ceiling => ceiling(book, named.price),
+        Refusal::OffersFull => format!("{MOST_OFFERS} offers are in"),
+        Refusal::NotFree => not_free(book, event, &named),
+        Refusal::Confirmed => format!("award {} is confirmed already", grouped(named.award)),
+        Refusal::LastDay => format!("it is day {}", grouped(LAST_DAY)),
+        // A sheet of the player suffices, and the other numbers are not those of calls.
+        _ => "no event of a file is refused like this".to_string(),
+    }
+}
+
+fn place(short: u16) -> usize {
+    usize::from(short) - 1
+}
+
+fn position(book: &Book, short: u16) -> &Position {
+    &book.positions[place(short)]
+}
+
+fn security_of(book: &Book, short: u16) -> usize {
+    position(book, short).security + 1
+}
+
+fn member(named: &Named) -> String {
+    let is_member = |&(_, number): &(&str, u8)| (1..=MEMBERS).contains(&usize::from(number));
+    let wrong: Vec<String> = named
+        .members
+        .iter()
+        .filter(|member| !is_member(member))
+        .map(|(role, number)| format!("the {role} {number} is not a member from 1 to {MEMBERS}"))
+        .collect();
+    wrong.join(", and ")
+}
+
+fn not_there(book: &Book, event: &Event, named: &Named) -> String {
+    match event {
+        Event::Confirm { .. } => {
+            let made = match book.awards.len() {
+                0 => "none was made today".to_string(),
+                1 => "today has award 1 alone".to_string(),
+                count => format!("today has awards 1 to {count}"),
+            };
+            format!("award {} is not there; {made}", grouped(named.award))
+        }
+        _ => {
+            let there = match book.positions.len() {
+                0 => "there is none yet".to_string(),
+                count => format!("there are positions 1 to {}", grouped(count as u64)),
+            };
+            format!("position {} is not there; {there}", grouped(named.short))
+        }
+    }
+}
+
+fn quantity(quantity: u32) -> String {
+    match quantity {
+        0 => "the quantity is 0".to_string(),
+        _ => format!("the quantity is above {}", grouped(GREATEST_QUANTITY)),
+    }
+}
+
+fn price(price: u32) -> String {
+    match price {
+        0 => "the price is 0".to_string(),
+        _ => format!("the price is above {}", grouped(GREATEST_PRICE)),
+    }
+}
+
+/// The windows go by the days since the delivery day.
+fn window(book: &Book, event: &Event, short: u16) -> String {
+    let position = position(book, short);
+    let class = book.securities[position.security].class;
+    let since = match position.r(book.day) {
+        None => format!("the position falls due on day {}", grouped(position.delivery_day)),
+        Some(days) => {
+            format!("today is {} after the delivery day, {}", counted(days, "day"), grouped(position.delivery_day))
+        }
+    };
+    let window = match (event, class) {
+        (Event::Delivery { .. }, _) => return format!("outside the window: {since}"),
+        (Event::Attempt { .. }, 1) => "an attempt is made on days 5 to 7 after it",
+        (Event::Attempt { .. }, _) => "an attempt is made on days 27, 37, 47 and so on after it",
+        (_, 1) => "a cash settlement is made from day 8 after it on",
+        _ => "a cash settlement is made on days 30 to 36, 40 to 46, 50 to 56 and so on after it",
+    };
+    format!("outside the window: {since}, and {window}")
+}
+
+fn auction(book: &Book, event: &Event, short: u16) -> String {
+    let running = book.auction.as_ref().map(|auction| auction.short + 1);
+    match (event, running) {
+        (Event::Delivery { .. }, _) => format!("the auction runs on position {}", grouped(short)),
+        (Event::Attempt { .. } | Event::Close, Some(other)) => {
+            format!("an auction runs, on position {}", grouped(other as u64))
+        }
+        (_, None) => format!("no auction runs, so none on position {}", grouped(short)),
+        (_, Some(other)) => {
+            format!("the auction runs on position {} and not on position {}", grouped(other as u64), grouped(short))
+        }
+    }
+}
+
+/// A second attempt on a short is one also where sixteen were opened, and is the nearer reason.
+fn attempts(book: &Book, short: u16) -> String {
+    if book.attempts.contains(&place(short)) {
+        format!("an attempt was opened on position {} today", grouped(short))
+    } else {
+        "sixteen attempts were opened today".to_string()
+    }
+}
+
+fn ceiling(book: &Book, price: u32) -> String {
+    let ceiling = book.auction.as_ref().map_or(0, |auction| auction.ceiling);
+    format!("the price {} exceeds the ceiling, {}", grouped(price), grouped(ceiling))
+}
+
+fn not_free(book: &Book, event: &Event, named: &Named) -> String {
+    let short = grouped(named.short);
+    match event {
+        Event::Delivery { .. } => {
+            let [free, open] = [book.free(place(named.short)), position(book, named.short).open()];
+            let units = counted(free, "unit");
+            let verb = if free == 1 { "is" } else { "are" };
+            match open - free {
+                0 => format!("{units} of position {short} {verb} open"),
+                awarded => format!(
+                    "{units} of position {short} {verb} free: {} open, of which awards that are not confirmed take {}",
+                    grouped(open),
+                    grouped(awarded)
+                ),
+            }
+        }
+        _ => format!("nothing of position {short} is open"),
+    }
+}
