@@ -90,7 +90,7 @@ pub fn is_idle(charge: &Charge) -> bool {
     matches!(charge.cause, Cause::Late { quantity: 0, .. })
 }
 
-fn award_words(number: usize, award: &Award) -> String {
+pub fn award_words(number: usize, award: &Award) -> String {
     let &Award { offerer, quantity, price, .. } = award;
     format!("award {number}: {} of member {offerer} at {}", counted(quantity, "unit"), grouped(price))
 }

@@ -27,8 +27,9 @@ const LONG_HISTORIES: usize = 4;
 /// The bytes of a wrong input that are shown; the seed gives all of it.
 const MOST_SHOWN: usize = 200;
 
-/// The most bytes of a page, whatever is played.
-const MOST_BYTES: usize = 3_000_000;
+/// The most bytes of a page, whatever is played. A file has 2,048 events, whose rows have up to some 1,500 bytes; the
+/// positions, their pictures and the accounts add half as much again.
+const MOST_BYTES: usize = 6_000_000;
 
 /// Names that would be markup, end an attribute or the title, or turn the text around.
 const NAMES: [&str; 10] = [

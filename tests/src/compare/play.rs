@@ -480,14 +480,15 @@ struct Scratch(PathBuf);
 
 impl Scratch {
     fn new(name: &str) -> Scratch {
-        let folder = std::env::temp_dir().join(format!("fails-book-{name}-{}", std::process::id()));
-        fs::create_dir_all(&folder).expect("a folder can be made in the temporary one");
+        // Not the system's place for such files, from which programs may not be run everywhere.
+        let folder = root().join("target").join(format!("scratch-{name}-{}", std::process::id()));
+        fs::create_dir_all(&folder).expect("a folder can be made where all is built");
         Scratch(folder)
     }
 
     fn file(&self, name: &str, content: &[u8]) -> PathBuf {
         let path = self.0.join(name);
-        fs::write(&path, content).expect("a file can be written in the temporary folder");
+        fs::write(&path, content).expect("a file can be written in a folder of our own");
         path
     }
 
@@ -495,7 +496,7 @@ impl Scratch {
     fn program(&self, name: &str, lines: &str) -> PathBuf {
         let path = self.file(name, format!("#!/bin/sh\n{lines}\n").as_bytes());
         let may_run = fs::Permissions::from_mode(0o755);
-        fs::set_permissions(Path::new(&path), may_run).expect("a script of the temporary folder can be made to run");
+        fs::set_permissions(Path::new(&path), may_run).expect("a script in a folder of our own can be made to run");
         path
     }
 }

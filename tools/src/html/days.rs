@@ -4,7 +4,7 @@ use super::escape::escaped;
 use super::figure::{cell, event_link, heads, span};
 use crate::numbers::{counted, grouped};
 use crate::played::{Done, Kind, Played, Refused, Step};
-use crate::words::{call, charge_words, is_idle};
+use crate::words::{award_words, call, charge_words, is_idle};
 use second::book::{Charge, Piece};
 use second::events::Event;
 
@@ -102,10 +102,7 @@ fn row(played: &Played, step: &Step, has_lines: bool) -> String {
 /// What an accepted call did, in the order in which it happened.
 fn details(played: &Played, step: &Step, done: &Done) -> String {
     let ceiling = done.ceiling.map(|ceiling| format!("the ceiling is {}", grouped(ceiling)));
-    let awards = done.awards.iter().map(|(number, award)| {
-        let [units, price] = [counted(award.quantity, "unit"), grouped(award.price)];
-        format!("award {number}: {units} of member {} at {price}", award.offerer)
-    });
+    let awards = done.awards.iter().map(|(number, award)| award_words(*number, award));
     let pieces = done.pieces.iter().zip(1..).map(|(piece, place)| piece_item(played, step.number, place, piece));
     let charges = charge_items(played, done);
     let made = match done.positions.len() {
