@@ -6,6 +6,7 @@ use crate::check::{Check, Round, Tests};
 use fails_book_tests::histories;
 use second::events::{file_of, Event};
 use second::register::bytes_of;
+use std::collections::BTreeSet;
 use std::ffi::OsStr;
 use std::fs;
 use std::io::{self, Read, Write};
@@ -46,6 +47,7 @@ pub fn exhaustive(tests: &mut Tests) {
     tests.check("play: the script", &[], script);
     tests.check("play: the player is built with a word about each crate", &[], progress);
     tests.check("desk: the C program", &[], c_program);
+    tests.check("desk: the header has what the library exports", &[], header);
 }
 
 pub fn seeded(round: &mut Round) {
@@ -411,6 +413,19 @@ fn c_program(check: &mut Check) {
     let words = "securities: refused with 1, the register's count or length is wrong\n".to_string();
     same(check, || "squeeze.txt".to_string(), (refused.status, refused.errors), (Some(1), words));
     same(check, || "no file".to_string(), run(&[]).status, Some(2));
+}
+
+fn header(check: &mut Check) {
+    let header = include_str!("../../../include/desk.h");
+    // Lines of comments begin with a star or a slash, and those with a body are the header's own.
+    let declarations = header.lines().filter(|line| !line.starts_with([' ', '/', '#']) && !line.starts_with("static"));
+    let declared: BTreeSet<&str> =
+        declarations.filter_map(|line| line.split_once('(')?.0.split(' ').next_back()).collect();
+    let library = include_str!("../../../crates/desk/src/lib.rt");
+    let exported = library.lines().filter_map(|line| line.strip_prefix("pub extern \"C\" fn ")?.split('(').next());
+    let exported: BTreeSet<&str> = exported.collect();
+    same(check, || "desk.h".to_string(), declared, exported.clone());
+    check.reached("a function that the library exports", exported.len() as u64);
 }
 
 fn squeeze() -> Vec<u8> {
