@@ -106,8 +106,9 @@ impl Played {
             steps.push(Step { number: place + 1, day, line, event, result });
         }
         let totals = totals(&steps);
-        sums_meet(&totals, &output::lines(output)?)?;
-        Ok(Ok(Played { register, steps, book, totals }))
+        let played = Played { register, steps, book, totals };
+        played.accounts_meet(&output::lines(output)?)?;
+        Ok(Ok(played))
     }
 
     pub fn position(&self, number: u16) -> &Position {
@@ -122,6 +123,28 @@ impl Played {
     /// What the charges of a kind add to an account.
     pub fn total(&self, account: u8, kind: Kind) -> i64 {
         self.totals[usize::from(account)][kind as usize]
+    }
+
+    /// The charges of each account add up to what the player printed of it.
+    pub fn accounts_meet(&self, lines: &[Line]) -> Result<(), String> {
+        let mut printed = [0; MEMBERS + 1];
+        for line in lines {
+            if let Line::Account { account, cents } = line {
+                let place = usize::try_from(*account).ok().and_then(|account| printed.get_mut(account));
+                *place.ok_or_else(|| format!("the player has an account {account}, and {MEMBERS} is the last"))? =
+                    *cents;
+            }
+        }
+        for ((kinds, printed), account) in self.totals.iter().zip(printed).zip(0..) {
+            let items: i64 = kinds.iter().sum();
+            if items != printed {
+                let [items, printed] = [items, printed].map(grouped);
+                return Err(format!(
+                    "the charges of account {account} add up to {items} cents, and the player has {printed}"
+                ));
+            }
+        }
+        Ok(())
     }
 }
 
@@ -139,27 +162,6 @@ fn totals(steps: &[Step]) -> Totals {
         totals[usize::from(charge.payee)][kind] += charge.cents;
     }
     totals
-}
-
-/// The items of each account add up to what the player printed of it.
-fn sums_meet(totals: &Totals, lines: &[Line]) -> Result<(), String> {
-    let mut printed = [0; MEMBERS + 1];
-    for line in lines {
-        if let Line::Account { account, cents } = line {
-            let account = usize::try_from(*account).ok().and_then(|account| printed.get_mut(account));
-            *account.ok_or("an account that the player printed is none")? = *cents;
-        }
-    }
-    for ((kinds, printed), account) in totals.iter().zip(printed).zip(0..) {
-        let items: i64 = kinds.iter().sum();
-        if items != printed {
-            let [items, printed] = [items, printed].map(grouped);
-            return Err(format!(
-                "the charges of account {account} add up to {items} cents, and the player has {printed}"
-            ));
-        }
-    }
-    Ok(())
 }
 
 fn fault(source: &Source) -> Result<Fault, String> {

@@ -1,11 +1,11 @@
 //! The program behind `./play`, run as people run it: what it prints where, its status, and what it does with bad input,
 //! a cut output, a full device and a closed pipe. The scripts around it, and the C program of examples/.
 
+use super::player::input;
 use super::same;
 use crate::check::{Check, Round, Tests};
 use fails_book_tests::histories;
-use second::events::{file_of, Event};
-use second::register::bytes_of;
+use second::events::Event;
 use std::collections::BTreeSet;
 use std::ffi::OsStr;
 use std::fs;
@@ -138,7 +138,7 @@ fn fault(name: &str, number: u8, words: &str, output: &str) -> Ended {
 
 /// Binary inputs that are refused, by which number, and what is said of where.
 fn refused_bytes() -> Vec<(Vec<u8>, u8, &'static str)> {
-    let whole = input(&[Event::Close, Event::Confirm { award: 1 }]);
+    let whole = input(1, &[Event::Close, Event::Confirm { award: 1 }]);
     let changed = |at: usize, byte: u8| {
         let mut bytes = whole.clone();
         bytes[at] = byte;
@@ -430,11 +430,6 @@ fn header(check: &mut Check) {
 
 fn squeeze() -> Vec<u8> {
     include_bytes!("../../../examples/squeeze.bin").to_vec()
-}
-
-/// The player's input on one security, document 01's.
-fn input(events: &[Event]) -> Vec<u8> {
-    [bytes_of(&[(1, *b"XX0000000002")]), file_of(events)].concat()
 }
 
 fn root() -> PathBuf {

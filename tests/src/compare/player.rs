@@ -1,6 +1,6 @@
 //! The player program: its whole output on known and on grown histories.
 
-use super::hex;
+use super::{hex, same};
 use crate::check::{Check, Round, Tests};
 use crate::desk::Answer;
 use fails_book_tests::histories::{self, survey::Survey};
@@ -8,6 +8,7 @@ use second::events::{file_of, Event};
 use second::register::bytes_of;
 use second::transcript;
 use std::hash::{DefaultHasher, Hash, Hasher};
+use tools::played::same_lines;
 use tools::player;
 
 /// What a file can meet: every refusal of register, file and call but for 8, as the player's sheets suffice, and 26, as
@@ -176,8 +177,7 @@ fn output(input: &[u8]) -> Vec<u8> {
 fn compare(check: &mut Check, input: &[u8]) {
     let second = transcript::transcript(input);
     count(check, &second);
-    let (player_line, second_line) = first_difference(&output(input), &second);
-    check.same(|| shown(input), player_line, second_line);
+    same(check, || shown(input), same_lines(&output(input), &second), Ok(()));
 }
 
 /// An output known beforehand, wanted of the player and of the second implementation alike.
@@ -196,20 +196,6 @@ fn count(check: &mut Check, output: &[u8]) {
             check.count(Answer::refused(number.parse().expect("a refusal is a number")));
         }
     }
-}
-
-/// The first lines that differ, with their number; nothing where the outputs are the same.
-fn first_difference(player: &[u8], second: &[u8]) -> (Option<String>, Option<String>) {
-    if player == second {
-        return (None, None);
-    }
-    let [player_lines, second_lines] = [player, second].map(|output| output.split_inclusive(|&byte| byte == b'\n'));
-    let same = player_lines.clone().zip(second_lines.clone()).take_while(|(player, second)| player == second).count();
-    let line = |found: Option<&[u8]>| {
-        let text = found.map_or("nothing more".into(), String::from_utf8_lossy);
-        Some(format!("line {}: {text}", same + 1))
-    };
-    (line(player_lines.clone().nth(same)), line(second_lines.clone().nth(same)))
 }
 
 pub fn shown(input: &[u8]) -> String {

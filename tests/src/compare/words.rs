@@ -8,6 +8,7 @@ use fails_book_tests::random::Random;
 use second::transcript;
 use std::collections::BTreeMap;
 use tools::check::Source;
+use tools::output;
 use tools::played::Played;
 use tools::words;
 
@@ -33,6 +34,7 @@ pub fn exhaustive(tests: &mut Tests) {
             same(check, || name.to_string(), words_of(text, output.as_bytes()), Ok(words.to_string()));
         }
     });
+    tests.check("words: the README's example", &[], readme);
     tests.check("words: known lines", &[], known_lines);
     tests.check("words: each reason for a refusal", &[], |check| {
         for (events, line) in REASONS {
@@ -48,6 +50,7 @@ pub fn exhaustive(tests: &mut Tests) {
         }
     });
     tests.check("words: outputs of other inputs", &[], other_outputs);
+    tests.check("words: accounts that the charges do not add up to", &[], other_accounts);
 }
 
 pub fn seeded(round: &mut Round) {
@@ -226,6 +229,42 @@ fn other_outputs(check: &mut Check) {
     let output = output.replacen("a 1 -224595\n", "", 1);
     let message = r#"output line 30: the player has "a 2 88000\n", and the second implementation "a 1 -224595\n""#;
     same(check, || output.clone(), words_of(text, output.as_bytes()), Err(message.to_string()));
+}
+
+/// Lines in place of the squeeze's `a 1 -224595`, and what is said of the accounts then.
+const OTHER_ACCOUNTS: [(&str, &str); 5] = [
+    ("", "the charges of account 1 add up to -224,595 cents, and the player has 0"),
+    ("a 1 -224594\n", "the charges of account 1 add up to -224,595 cents, and the player has -224,594"),
+    ("a 1 224595\n", "the charges of account 1 add up to -224,595 cents, and the player has 224,595"),
+    ("a 1 -224595\na 63 1\n", "the charges of account 63 add up to 0 cents, and the player has 1"),
+    ("a 1 -224595\na 64 1\n", "the player has an account 64, and 63 is the last"),
+];
+
+fn other_accounts(check: &mut Check) {
+    let (_, text, output, _) = EXAMPLES[1];
+    let played = Source::of_text(text.as_bytes()).and_then(|source| played(&source, output.as_bytes()));
+    let meet = |output: &str| {
+        let played = played.as_ref().map_err(String::clone)?;
+        played.accounts_meet(&output::lines(output.as_bytes())?)
+    };
+    same(check, || output.to_string(), meet(output), Ok(()));
+    for (line, message) in OTHER_ACCOUNTS {
+        let output = output.replacen("a 1 -224595\n", line, 1);
+        same(check, || output.clone(), meet(&output), Err(message.to_string()));
+    }
+}
+
+/// What the README shows of the squeeze are lines of its words, in their order.
+fn readme(check: &mut Check) {
+    let readme = include_str!("../../../README.md");
+    let (_, after) = readme.split_once("`./play --text examples/squeeze.txt` shows:").unwrap_or_default();
+    let (shown, _) = after.split_once("\nEach play").unwrap_or_default();
+    let shown: Vec<&str> = shown.lines().filter_map(|line| line.strip_prefix("    ")).collect();
+    let mut words = EXAMPLES[1].3.lines();
+    for line in &shown {
+        same(check, || line.to_string(), words.any(|word| word == *line), true);
+    }
+    check.reached("a line of words in the README", shown.len() as u64);
 }
 
 /// Whether the input is charged anything. The amounts that its words name, paid and received, are its accounts.

@@ -77,7 +77,8 @@ pub fn closes(random: &mut Random, closes: u16) -> Vec<u8> {
     for security in 0..4 {
         history.play(Event::Price { security: number(security), price: 1_100 });
     }
-    while history.events.len() < MOST_EVENTS - usize::from(closes) {
+    // A book holds no more trades, however few closes there are to be.
+    while history.events.len() < MOST_EVENTS - usize::from(closes) && history.book.trades.len() < MOST_TRADES {
         history.try_to_play(History::fitting_trade);
     }
     history.close(closes);
