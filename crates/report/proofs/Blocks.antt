@@ -15,7 +15,7 @@ use Rattle.plain.specs.declared.Position.{Position}
 use Rattle.plain.proofs.Numbered.{place-nth}
 use Rattle.plain.specs.Book.{nth, noPosition}
 use Rattle.tables.specs.Tables.{Positions, PositionsFit, positions}
-use Rattle.report.specs.Lines.{LINE, positionLine, positionLines}
+use Rattle.report.specs.Lines.{LINE}
 use Rattle.report.specs.Pages.{Put, Wrote, lent, back, put-none, put-lent, put-length, put-text, put-wrote, wrote-lent}
 
 module _ {A : Type 0} (f : A → List ℕ) (xs : List A) (d : A) where
@@ -106,22 +106,25 @@ take-map f (suc n) (x ∷ xs) = rw (take-map f n xs)
 pub take-range : (a n : ℕ) → take n (range a n) ≡ range a n
 take-range a n = take-all n (range a n) (omega (arith, length-range a n))
 
--- ---- positions by their numbers
+-- ---- positions by their numbers, each with a line of its number and itself
 
--- the line of position number n
-abbrev pub positionText : List Position → ℕ → List ℕ
-positionText ps n = positionLine n (nth noPosition ps n)
+module _ (lineOf : ℕ → Position → List ℕ) where
+  -- the line of position number n
+  abbrev pub positionText : List Position → ℕ → List ℕ
+  positionText ps n = lineOf n (nth noPosition ps n)
 
--- the position at an index, counted from 0, and its line
-pub position-here : (table : Positions) (i : ℕ) → i < table .count → positionLine (i + 1) (getD (table .items) i noPosition) ≡ positionText (positions table) (getD (range 1 (table .count)) i 0)
-unfolding positions
-position-here table i h =
-    let n : getD (range 1 (table .count)) i 0 ≡ i + 1 = getD-range 1 (table .count) i 0 h ∙ omega arith in
-    let p : getD (table .items) i noPosition ≡ nth noPosition (take (table .count) (table .items)) (i + 1) =
-    sym (place-nth noPosition (take (table .count) (table .items)) i (i + 1) (add-one i) ∙ getD-take (table .count) (table .items) i noPosition h) in
-    ap (positionLine (i + 1)) p ∙ ap (positionText (take (table .count) (table .items))) (sym n)
+  -- the position at an index, counted from 0, and its line
+  pub position-here : (table : Positions) (i : ℕ) → i < table .count → lineOf (i + 1) (getD (table .items) i noPosition) ≡ positionText (positions table) (getD (range 1 (table .count)) i 0)
+  unfolding positions
+  position-here table i h =
+      let n : getD (range 1 (table .count)) i 0 ≡ i + 1 = getD-range 1 (table .count) i 0 h ∙ omega arith in
+      let p : getD (table .items) i noPosition ≡ nth noPosition (take (table .count) (table .items)) (i + 1) =
+      sym (place-nth noPosition (take (table .count) (table .items)) i (i + 1) (add-one i) ∙ getD-take (table .count) (table .items) i noPosition h) in
+      ap (lineOf (i + 1)) p ∙ ap (positionText (take (table .count) (table .items))) (sym n)
 
-pub positions-all : (table : Positions) → PositionsFit table → each (positionText (positions table)) (take (table .count) (range 1 (table .count))) ≡ positionLines (positions table)
-unfolding positions positionLines
-positions-all table fit =
-    ap (each (positionText (positions table))) (take-range 1 (table .count) ∙ ap (range 1) (sym (length-take-le (table .count) (table .items) (omega (arith, fit .places, fit .held)))))
+  -- the lines of all of them
+  pub positions-all : (table : Positions) → PositionsFit table
+      → each (positionText (positions table)) (take (table .count) (range 1 (table .count))) ≡ each (positionText (positions table)) (range 1 (length (positions table)))
+  unfolding positions
+  positions-all table fit =
+      ap (each (positionText (positions table))) (take-range 1 (table .count) ∙ ap (range 1) (sym (length-take-le (table .count) (table .items) (omega (arith, fit .places, fit .held)))))

@@ -1,9 +1,11 @@
 -- Document 01, 'Event files and the player': the lines that the player prints. Letters and signs are ASCII bytes.
-use Prim.Native.Nat.{ℕ, zero, suc}
+use Prim.Native.Nat.{ℕ, zero, suc, _-_}
 use mathlib.Core.Path.{_≡_, refl, ap}
 use mathlib.Core.List.{List, [], _∷_, _++_, map}
 use mathlib.Core.Bool.{Bool, true, false, cond}
 use lib.ListN.{length, getD}
+use lib.Seq.{sets}
+use lib.Dec.{ltb}
 use lib.IntN.{ℤ, pos, negsuc, negℤ, subℕ}
 use Rattle.laws.specs.Limits.{ACCOUNTS}
 use Rattle.laws.specs.Lists.{range, filter, each}
@@ -77,6 +79,11 @@ refusalLine number = line 102 (digits number ∷ [])
 -- a page that a line is written into has at least 80 bytes. The longest line, a position's, has 69.
 abbrev pub LINE : ℕ
 LINE = 80
+
+-- A text that ends where a column of so many places ends; the column begins where the page does. The places before the text are kept. Where the
+-- text does not fit the column, or the column the page, the page is left as it is.
+abbrev pub endingAt : ℕ → List ℕ → List ℕ → List ℕ
+endingAt width text page = cond (ltb (length page) width) page (cond (ltb width (length text)) page (sets page (width - length text) text))
 
 -- ---- blocks of lines
 

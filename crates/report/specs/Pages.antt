@@ -4,11 +4,12 @@ use native.Mathlib.Omega.{arith}
 use mathlib.Core.Path.{_≡_, refl, ap, ap₂, sym, _∙_, subst}
 use mathlib.Core.List.{List, [], _∷_, _++_, append-assoc, append-nil}
 use mathlib.Core.Bool.{Bool, true, false, cond}
-use lib.ListN.{length, take, drop, set, length-append, length-drop, drop-of-length-le}
-use lib.Seq.{take-at, drop-at, drop-drop, set-split, take-all, length-take-le}
+use lib.ListN.{length, take, drop, set, length-append, length-drop, take-append-drop, drop-of-length-le}
+use lib.Seq.{take-at, drop-at, drop-drop, set-split, take-all, length-take-le, sets}
 use lib.Dec.{ltb}
 use borrow.Rule.Slice.PartMut.{same-len-mid}
 use borrow.Author.Tests.{lt-ltb, le-ltb}
+use Rattle.laws.specs.Parts.{sets-front}
 
 -- A text stands in the first bytes of a page, whose later bytes are as they were; r is how many bytes the text has.
 pub record Put (text entry exit : List ℕ) (r : ℕ) : Type 0 where
@@ -127,3 +128,30 @@ put-text text text₂ entry exit n e w = subst (λ (t : List ℕ). Put t entry e
 
 pub wrote-text : (least : ℕ) (text text₂ entry exit : List ℕ) (n : ℕ) → text ≡ text₂ → Wrote least text entry exit n → Wrote least text₂ entry exit n
 wrote-text least text text₂ entry exit n e w = subst (λ (t : List ℕ). Wrote least t entry exit n) e w
+
+-- ---- a text that is stored from a place on
+
+sets-after : (x : ℕ) (l vs : List ℕ) (i : ℕ) → sets (x ∷ l) (suc i) vs ≡ x ∷ sets l i vs
+sets-after x l [] i = refl
+sets-after x l (v ∷ vs) i = sets-after x (set l i v) vs (suc i)
+
+-- what stands before the place stays
+pub sets-past : (xs ys vs : List ℕ) (i k : ℕ) → i ≡ length xs + k → sets (xs ++ ys) i vs ≡ xs ++ sets ys k vs
+sets-past [] ys vs i k e = ap (λ (n : ℕ). sets ys n vs) (omega (arith, e))
+sets-past (x ∷ xs) ys vs i k e =
+    ap (λ (n : ℕ). sets (x ∷ (xs ++ ys)) n vs) (let s : i ≡ suc (length xs + k) = omega (arith, e) in s)
+    ∙ sets-after x (xs ++ ys) vs (length xs + k)
+    ∙ ap (λ (l : List ℕ). x ∷ l) (sets-past xs ys vs (length xs + k) k refl)
+
+-- the same of the part of a page that is lent from a place on
+pub sets-lent : (vs page : List ℕ) (n k : ℕ) → n ≤ length page → back n page (sets (lent n page) k vs) ≡ sets page (n + k) vs
+sets-lent vs page n k h =
+    let whole : lent n page ≡ drop n page = take-all (length page - n) (drop n page) (omega (arith, length-drop n page)) in
+    let rest : drop (length page - n) (drop n page) ≡ [] = drop-of-length-le (drop n page) {i = length page - n} (omega (arith, length-drop n page)) in
+    ap₂ (λ (l r : List ℕ). take n page ++ (sets l k vs ++ r)) whole rest
+    ∙ ap (λ (l : List ℕ). take n page ++ l) (append-nil (sets (drop n page) k vs))
+    ∙ sym (sets-past (take n page) (drop n page) vs (n + k) k (omega (arith, length-take-le n page h)))
+    ∙ ap (λ (l : List ℕ). sets l (n + k) vs) (take-append-drop n page)
+
+pub put-sets : (text entry exit : List ℕ) (n : ℕ) → length text ≤ length entry → Put text entry exit n → exit ≡ sets entry 0 text
+put-sets text entry exit n h w = w .page ∙ sym (sets-front entry text h)

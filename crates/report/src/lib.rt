@@ -11,7 +11,7 @@ ghost use Rattle.pieces.specs.Sheet.{piecesOf};
 ghost use Rattle.tables.specs.Tables.{positions};
 ghost use Rattle.tables.specs.Lent.{positionTable};
 ghost use Rattle.report.specs.Digits.{digits};
-ghost use Rattle.report.specs.Lines.{LINE, accountLine, accountLines, amount, balanceText, eventLine, eventLines, field, number, numbers, pieceLine, pieceLines, positionLine, positionLines, refusalLine, side, signed};
+ghost use Rattle.report.specs.Lines.{LINE, accountLine, accountLines, amount, balanceText, endingAt, eventLine, eventLines, field, number, numbers, pieceLine, pieceLines, positionLine, positionLines, refusalLine, side, signed};
 ghost use Rattle.report.specs.Pages.{Put, Wrote};
 use laws::ACCOUNTS;
 use laws::PLACES;
@@ -56,6 +56,22 @@ fn put_digits(page: &mut [u8], n: u64) -> usize
         left = left / 10;
     }
     count
+}
+
+// The digits of a number, ending where a column of `width` places ends. The column begins where the lent page does, and the places before the
+// digits are kept. Where they do not fit the column, or the column the page, the page is left as it is.
+pub fn put_right(page: &mut [u8], width: usize, n: u64)
+    ensures { λ _. ⌜ now (page .exit) ≡ endingAt width (digits n) (now (page .entry)) ⌝ }
+{
+    if page.len() < width {
+        return;
+    }
+    let count = digit_count(n);
+    if width < count {
+        return;
+    }
+    let from = width - count;
+    put_digits(&mut page[from..], n);
 }
 
 // A number as a field: a blank and its digits.
@@ -141,7 +157,7 @@ pub fn refusal_line(page: &mut [u8], number: u8) -> usize
 }
 
 // D for a short, R for a long.
-fn side_of(short: bool) -> u8
+pub fn side_of(short: bool) -> u8
     ensures { λ r. ⌜ r ≡ side short ⌝ }
 {
     if short { b'D' } else { b'R' }

@@ -17,7 +17,7 @@ use Rattle.report.proofs.position_lines.Tie as tie
 
 -- the line of each position
 abbrev lineOf : List ℕ → ℕ → ℕ → List ℕ
-lineOf rows count = positionText (positions (positionTable rows count))
+lineOf rows count = positionText positionLine (positions (positionTable rows count))
 
 abbrev Inv-loop : tie.InvT-loop
 Inv-loop page₀ rows count at₀ i₀ page at i = Lined (lineOf rows count) (range 1 count) count page₀ page at i
@@ -83,13 +83,14 @@ loop-again c =
     let table = positionTable (a .rows .now) (a .count) in
     let numbered = range 1 (a .count) in
     let i : k .i < length numbered = omega (arith, length-range 1 (a .count), n .loop-test .taken) in
-    let here : positionLine (k .i + 1) (r .row-at .result) ≡ positionText (positions table) (getD numbered (k .i) 0) = rw (r .row-at .ensures) (position-here table (k .i) (n .loop-test .taken)) in
+    let here : positionLine (k .i + 1) (r .row-at .result) ≡ positionText positionLine (positions table) (getD numbered (k .i) 0) = rw (r .row-at .ensures) (position-here positionLine table (k .i) (n .loop-test .taken)) in
     lined-next _ _ _ _ (e .if1 .left) _ _ _ (k .inv) 0 _ _ (n .loop-test .taken) i (wrote-text LINE _ _ _ (d .last .0) (d .result) here (d .ensures))
 
 same-length : tie.Need-same-length Inv-loop μ-loop
 same-length c = lined-length _ _ _ _ (c .before .before .if1 .left) _ _ _ (c .before .loop .inv)
 
 returns-2 : tie.Need-returns-2 Inv-loop μ-loop
+unfolding positionLines
 returns-2 c =
     let k = c .before .loop in
     let e = c .before .before in
@@ -98,7 +99,7 @@ returns-2 c =
     let table = positionTable (a .rows .now) (a .count) in
     let fits : PositionsFit table = record { places = length-rows (a .rows .now); held = s .pre } in
     let all : k .i ≡ a .count = omega (arith, k .inv .within, c .loop-test .left) in
-    all-lined _ _ _ _ (e .if1 .left) _ _ _ (k .inv) (positionLines (positions table)) (ap (λ (n : ℕ). each (lineOf (a .rows .now) (a .count)) (take n (range 1 (a .count)))) all ∙ positions-all table fits)
+    all-lined _ _ _ _ (e .if1 .left) _ _ _ (k .inv) (positionLines (positions table)) (ap (λ (n : ℕ). each (lineOf (a .rows .now) (a .count)) (take n (range 1 (a .count)))) all ∙ positions-all positionLine table fits)
 
 pub position-lines-spec : {M : Type 1} → statement M
 position-lines-spec =
