@@ -25,6 +25,7 @@ pub use reading::accounts;
 pub use reading::award_at;
 pub use reading::balance;
 pub use reading::day;
+pub use reading::isins;
 pub use reading::position;
 pub use reading::position_count;
 pub use trading::price;

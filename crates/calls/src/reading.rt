@@ -20,6 +20,15 @@ pub fn day(core: Core) -> BusinessDay
     core.day
 }
 
+// The ISINs of the register, 12 bytes each.
+pub fn isins(core: Core) -> [u8; 384]
+    ensures { λ r. ⌜ r ≡ core .opening .register .isins ⌝ }
+{
+    let opening = core.opening;
+    let register = opening.register;
+    register.isins
+}
+
 pub fn position_count(core: Core) -> usize
     ensures { λ r. ⌜ r ≡ core .positions ⌝ }
 {

@@ -1,0 +1,5 @@
+pub mod Laying
+pub mod Legible
+pub mod Writing
+pub mod Answers
+pub mod Told
