@@ -8,10 +8,11 @@
  *   to so many bytes that stay readable (of a page: writable) for the time of the call. Nothing is kept after it.
  * - A page must not overlap the bytes that are read in the same call. Two slices that are only read may overlap.
  * - There is no state, so functions may be called from several threads at once, each with pages of its own.
- * - Nothing is allocated. Measured on x86-64, desk_copy_file takes some 70 KB of stack and every other function under 5 KB.
+ * - Nothing is allocated. Measured on x86-64, desk_page takes some 140 KB of stack, desk_copy_file some 70 KB and every other
+ *   function under 5 KB.
  *
- * Functions that can refuse answer one number, which desk_refusal and desk_quantity take apart. Refusals are those of
- * docs/FORMAT.md; a refused call changes nothing.
+ * Functions that can refuse answer one number, which desk_refusal and desk_quantity take apart; desk_page answers in a way of
+ * its own. Refusals are those of docs/FORMAT.md; a refused call changes nothing.
  */
 #ifndef DESK_H
 #define DESK_H
@@ -60,6 +61,22 @@ uint64_t desk_file(const uint8_t *bytes, size_t length);
 /* The file read and written into the page's first bytes: refusals 5 to 7, or how many bytes were written. The bytes after
  * them stay as they were, and so does the whole page where the call is refused. */
 uint64_t desk_copy_file(const uint8_t *bytes, size_t length, uint8_t *page, size_t page_length);
+
+/* The bytes of a line of the desk's page, its line feed among them, and of a page with room for every book, which has at most
+ * 1,024 positions. */
+enum { DESK_PAGE_LINE = 81, DESK_PAGE_BYTES = 1024 * 81 };
+
+/* The file played on a new book, and the positions at its end written into the page's first bytes, a line each by rising
+ * number; docs/FORMAT.md has the columns. The register's length is exact: 2 bytes and 13 for each security.
+ *
+ * The answer is one plain number, which desk_refusal and desk_quantity do not take apart: how many bytes were written, 0 or a
+ * multiple of 81, or else the refusal. Refusals 1 to 4 are the register's, 5 to 7 the file's, and then 31 where the page has
+ * under 81 bytes a position; a book without positions asks for no page. An event that the book refuses is no refusal of the
+ * call. The page's bytes after the last line stay as they were, and so does the whole page where the call is refused.
+ *
+ * The page must overlap neither the register nor the file. */
+uint64_t desk_page(const uint8_t *register_bytes, size_t register_length, const uint8_t *file, size_t file_length,
+                   uint8_t *page, size_t page_length);
 
 #ifdef __cplusplus
 }

@@ -1,4 +1,5 @@
-//! The refusals of document 01, 'Why a call is turned down', by their numbers there.
+//! The refusals of document 01, 'Why a call is turned down', and of document 02, Slip 1, 'The desk's page', by their
+//! numbers there.
 
 #[derive(Clone, Copy, Debug, PartialEq, Eq)]
 pub enum Refusal {
@@ -32,6 +33,7 @@ pub enum Refusal {
     Holidays = 28,
     BusinessDay = 29,
     After2099 = 30,
+    PageSize = 31,
 }
 
 /// A refusal of a register or an event file, with the number of the security or event that it meets, if it meets one.

@@ -17,6 +17,14 @@ mod library {
         pub fn desk_date_to_day(opening: u32, holidays: *const u8, length: usize, date: u32) -> u64;
         pub fn desk_file(file: *const u8, length: usize) -> u64;
         pub fn desk_copy_file(file: *const u8, length: usize, page: *mut u8, page_length: usize) -> u64;
+        pub fn desk_page(
+            register: *const u8,
+            register_length: usize,
+            file: *const u8,
+            file_length: usize,
+            page: *mut u8,
+            page_length: usize,
+        ) -> u64;
     }
 }
 
@@ -101,4 +109,11 @@ pub fn file(file: &[u8]) -> Answer {
 
 pub fn copy_file(file: &[u8], page: &mut [u8]) -> Answer {
     Answer::unpacked(unsafe { library::desk_copy_file(file.as_ptr(), file.len(), page.as_mut_ptr(), page.len()) })
+}
+
+/// One number answers: the bytes written, or the refusal.
+pub fn page(register: &[u8], file: &[u8], page: &mut [u8]) -> u64 {
+    let [register_length, file_length, page_length] = [register.len(), file.len(), page.len()];
+    let (register, file, page) = (register.as_ptr(), file.as_ptr(), page.as_mut_ptr());
+    unsafe { library::desk_page(register, register_length, file, file_length, page, page_length) }
 }

@@ -1,5 +1,5 @@
-//! Compares the static libraries `desk` and `probe` and the player with a second implementation, written from document 01 and
-//! ISO 6166 in another style.
+//! Compares the static libraries `desk` and `probe` and the player with a second implementation, written from documents 01
+//! and 02 and ISO 6166 in another style.
 //!
 //! An argument, if given, is the seed of the second round; else that round has a seed of its own in each run.
 
@@ -35,12 +35,17 @@ fn main() -> ExitCode {
     compare::player::exhaustive(&mut tests);
     compare::sheets::exhaustive(&mut tests);
     compare::lines::exhaustive(&mut tests);
+    compare::page::exhaustive(&mut tests);
     compare::text::exhaustive(&mut tests);
     compare::words::exhaustive(&mut tests);
     compare::walk::exhaustive(&mut tests);
     compare::csv::exhaustive(&mut tests);
     compare::html::exhaustive(&mut tests);
+    // The checks of `./play` run the C programs that the checks of these build.
+    compare::c_programs::exhaustive(&mut tests);
+    compare::builds::exhaustive(&mut tests);
     compare::play::exhaustive(&mut tests);
+    compare::play_page::exhaustive(&mut tests);
     for seed in [FIXED_SEED, seed] {
         println!("seed {seed}");
         let mut round = Round { tests: &mut tests, seed };
@@ -51,12 +56,14 @@ fn main() -> ExitCode {
         compare::player::seeded(&mut round);
         compare::sheets::seeded(&mut round);
         compare::lines::seeded(&mut round);
+        compare::page::seeded(&mut round);
         compare::text::seeded(&mut round);
         compare::words::seeded(&mut round);
         compare::walk::seeded(&mut round);
         compare::csv::seeded(&mut round);
         compare::html::seeded(&mut round);
         compare::play::seeded(&mut round);
+        compare::play_page::seeded(&mut round);
     }
 
     println!("{} passed, {} failed", tests.passed, tests.failed);

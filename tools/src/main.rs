@@ -1,5 +1,5 @@
-//! The program behind `./play`: plays files with the proved player, shows what became of them, and turns one form of a
-//! file into the other.
+//! The program behind `./play`: plays files with the proved player, shows what became of them, or the desk's page of
+//! their positions, and turns one form of a file into the other.
 
 use std::ffi::{OsStr, OsString};
 use std::io::{self, ErrorKind, Read, Write};
@@ -9,7 +9,7 @@ use tools::check::{self, Fault, Source};
 use tools::numbers::counted;
 use tools::played::Played;
 use tools::text::{self, Input};
-use tools::{csv, html, player, walk, words};
+use tools::{csv, html, page, player, walk, words};
 
 const USAGE: &str = "\
 usage: ./play FILE            plays a binary file: register, then events; shows the player's lines
@@ -18,13 +18,14 @@ usage: ./play FILE            plays a binary file: register, then events; shows 
        ./play --walk FILE     each short's pieces to its longs, each long's back to its shorts, side by side
        ./play --csv FILE      events, pieces, positions, charges and accounts for a spreadsheet
        ./play --html FILE     a page for a browser or a printer
+       ./play --page FILE     the desk's page: the positions at the file's end in 80 columns
        ./play --check FILE    plays nothing: would the input be refused by 1 to 7, and where
        ./play --binary FILE   the binary form of a text file
        ./play --back FILE     the text form of a binary file
        ./play --help          shows this
 
-FILE is - for standard input. --refused, --walk, --csv, --html and --check take a file of either form; --check and
---refused take several files.
+FILE is - for standard input. --refused, --walk, --csv, --html, --page and --check take a file of either form; --check
+and --refused take several files.
 
 Status: 0 where the file was played; 1 where it was refused, could not be read or shown; 2 where the command is wrong.
 
@@ -53,6 +54,7 @@ enum Form {
     Walk,
     Csv,
     Html,
+    Page,
     Check,
     Binary,
     Back,
@@ -101,6 +103,7 @@ fn command(arguments: &[OsString]) -> Option<(Form, &[OsString])> {
         Some("--walk") => Form::Walk,
         Some("--csv") => Form::Csv,
         Some("--html") => Form::Html,
+        Some("--page") => Form::Page,
         Some("--check") => Form::Check,
         Some("--binary") => Form::Binary,
         Some("--back") => Form::Back,
@@ -141,6 +144,7 @@ fn done(form: Form, file: &OsStr, heading: Option<&str>) -> Result<(), Ending> {
         Form::Binary => return shown(&text::read(&bytes).map_err(|wrong| text_or_binary(&bytes, wrong))?.bytes()),
         Form::Back => return shown(text_of(&bytes)?.as_bytes()),
         Form::Lines => return play_lines(bytes),
+        Form::Page => return shown(&page_of(&source(form, bytes)?)?),
         Form::Check => check(&source(form, bytes)?)?,
         _ => {
             let source = source(form, bytes)?;
@@ -227,20 +231,25 @@ fn play_lines(bytes: Vec<u8>) -> Result<(), Ending> {
 }
 
 fn output(input: &[u8]) -> Result<Vec<u8>, Ending> {
-    build_player()?;
+    build("player", "FAILS_PLAYER", "the player")?;
     player::play(input).map_err(|error| Ending::Wrong(format!("the player: {error}")))
 }
 
-/// Builds the player where it is missing or out of date, unless another one is named.
-fn build_player() -> Result<(), Ending> {
-    if std::env::var_os("FAILS_PLAYER").is_some() {
+fn page_of(source: &Source) -> Result<Vec<u8>, Ending> {
+    build("page", "FAILS_PAGE", "the page program")?;
+    page::page(source).map_err(Ending::Wrong)?.map_err(refused)
+}
+
+/// Builds a program where it is missing or out of date, unless the variable names another one.
+fn build(program: &str, variable: &str, words: &str) -> Result<(), Ending> {
+    if std::env::var_os(variable).is_some() {
         return Ok(());
     }
-    let script = player::root().join("tools").join("build-player");
-    let status = Command::new(&script).stdin(Stdio::null()).stdout(Stdio::null()).status();
+    let script = player::root().join("tools").join("build");
+    let status = Command::new(&script).arg(program).stdin(Stdio::null()).stdout(Stdio::null()).status();
     match status {
         Ok(status) if status.success() => Ok(()),
-        Ok(_) => Err(Ending::Wrong("the player could not be built".to_string())),
+        Ok(_) => Err(Ending::Wrong(format!("{words} could not be built"))),
         Err(error) => Err(Ending::Wrong(format!("{}: {error}", script.display()))),
     }
 }

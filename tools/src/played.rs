@@ -192,19 +192,24 @@ fn step(book: &mut Book, event: &Event) -> Result<Done, Refused> {
 
 /// Wants the player's output to be the second implementation's, and names the first line that is not.
 pub fn same_lines(player: &[u8], second: &[u8]) -> Result<(), String> {
-    if player == second {
+    same_output("the player", player, second)
+}
+
+/// Wants a program's output to be the second implementation's, and names the first line that is not.
+pub fn same_output(program: &str, output: &[u8], second: &[u8]) -> Result<(), String> {
+    if output == second {
         return Ok(());
     }
-    let [player_lines, second_lines] = [player, second].map(|output| output.split_inclusive(|&byte| byte == b'\n'));
-    let same = player_lines.clone().zip(second_lines.clone()).take_while(|(player, second)| player == second).count();
+    let [output_lines, second_lines] = [output, second].map(|output| output.split_inclusive(|&byte| byte == b'\n'));
+    let same = output_lines.clone().zip(second_lines.clone()).take_while(|(output, second)| output == second).count();
     let shown = |line: &[u8]| format!("{:?}", String::from_utf8_lossy(line));
-    Err(match (player_lines.clone().nth(same), second_lines.clone().nth(same)) {
-        (Some(player), Some(second)) => {
-            let [player, second] = [player, second].map(shown);
-            format!("output line {}: the player has {player}, and the second implementation {second}", same + 1)
+    Err(match (output_lines.clone().nth(same), second_lines.clone().nth(same)) {
+        (Some(output), Some(second)) => {
+            let [output, second] = [output, second].map(shown);
+            format!("output line {}: {program} has {output}, and the second implementation {second}", same + 1)
         }
-        (Some(player), None) => {
-            format!("output line {}: the output should have ended, and has {}", same + 1, shown(player))
+        (Some(output), None) => {
+            format!("output line {}: the output should have ended, and has {}", same + 1, shown(output))
         }
         _ => format!(
             "the output is cut off: it has {} of {} lines",

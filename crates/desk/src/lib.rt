@@ -10,6 +10,7 @@ ghost use Rattle.register.specs.Register.{registerRead};
 ghost use Rattle.calendar.specs.Answers.{dayToDate, dateRefusal, dateValue, dateToDay, dayRefusal, dayValue};
 ghost use Rattle.events.specs.File as file;
 ghost use Rattle.answers.specs.Packed as definition;
+ghost use Rattle.page.specs.Answer.{pageAnswer, pageAfter};
 use calendar::DateAnswer;
 use calendar::DayAnswer;
 use events::Written;
@@ -120,4 +121,13 @@ pub extern "C" fn desk_copy_file(bytes: &[u8], page: &mut [u8]) -> u64
         Written::Done(count) => answers::packed(0, count),
         Written::Refused(number) => answers::packed(number, 0),
     }
+}
+
+// The positions at the end of a file that is played on a new book, a line of 80 columns and a line feed each: the bytes written, or refusals 1
+// to 7 and 31. This number is the whole answer, and no quantity is packed with it: a refusal is never 0 or 81 and more.
+#[no_mangle]
+pub extern "C" fn desk_page(register: &[u8], file: &[u8], page: &mut [u8]) -> u64
+    ensures { λ r. ⌜ (r ≡ pageAnswer (now (register .entry)) (now (file .entry)) (now (page .entry))) × (now (page .exit) ≡ pageAfter (now (register .entry)) (now (file .entry)) (now (page .entry))) ⌝ }
+{
+    page::show(register, file, page)
 }

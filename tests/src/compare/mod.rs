@@ -1,13 +1,18 @@
 //! The comparisons, part by part: exhaustive and known inputs once, random inputs once for each seed.
 
+pub mod builds;
+pub mod c_programs;
 pub mod calendar;
 pub mod charges;
 pub mod csv;
 pub mod events;
 pub mod html;
 pub mod lines;
+pub mod page;
 pub mod play;
+pub mod play_page;
 pub mod player;
+mod programs;
 pub mod register;
 pub mod sheets;
 pub mod text;
