@@ -13,17 +13,6 @@
 /* The largest register and file that pass have 35,238 bytes together; one byte more tells a longer input. */
 enum { MOST_BYTES = 35238 };
 
-static const char *const reasons[] = {
-    "accepted",
-    "the register's count or length is wrong",
-    "a class is not 1 to 3",
-    "an ISIN is malformed",
-    "an ISIN stands earlier in the register",
-    "the file's count, width or length is wrong",
-    "a kind is not 1 to 9",
-    "a spare byte is not zero",
-};
-
 static void rules(void) {
     /* The squeeze of examples/: class 1, latest price 1,100, cash settlement of 90 units on day 11, due on day 3. */
     printf("step on day 8: %u, on day 11: %u\n", desk_step(1, 8 - 3), desk_step(1, 11 - 3));
@@ -42,7 +31,8 @@ static void calendar(void) {
     printf("business day 3: %u\n", desk_quantity(date));
     printf("2026-01-06: business day %u\n", desk_quantity(day));
     /* A Saturday is no business day. Without holidays the list is NULL with length 0. */
-    printf("2026-01-10: refused with %u\n", desk_refusal(desk_date_to_day(20260101, NULL, 0, 20260110)));
+    uint32_t saturday = desk_refusal(desk_date_to_day(20260101, NULL, 0, 20260110));
+    printf("2026-01-10: refused with %u, %s\n", saturday, desk_reason(saturday));
 }
 
 /* Says what the answer is and whether it is a refusal. */
@@ -52,7 +42,7 @@ static int refused(const char *part, uint64_t answer) {
         printf("%s: %u\n", part, desk_quantity(answer));
         return 0;
     }
-    fprintf(stderr, "%s: refused with %u, %s\n", part, number, reasons[number]);
+    fprintf(stderr, "%s: refused with %u, %s\n", part, number, desk_reason(number));
     return 1;
 }
 

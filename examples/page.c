@@ -12,20 +12,6 @@
 /* The largest register and file that pass; one byte more tells a longer one, which is refused whatever follows. */
 enum { MOST_REGISTER = 2 + 13 * 32, MOST_FILE = 4 + 17 * 2048 };
 
-static const char *reason(uint64_t refusal) {
-    switch (refusal) {
-    case 1: return "the register's count or length is wrong";
-    case 2: return "a class is not 1 to 3";
-    case 3: return "an ISIN is malformed";
-    case 4: return "an ISIN stands earlier in the register";
-    case 5: return "the file's count, width or length is wrong";
-    case 6: return "a kind is not 1 to 9";
-    case 7: return "a spare byte is not zero";
-    /* 31, which never comes here, since the page has room for every book. */
-    default: return "the page is too short for its positions";
-    }
-}
-
 /* Reads at most so many bytes, says where that fails, and answers whether it went well. */
 static int read_bytes(const char *name, uint8_t *bytes, size_t most, size_t *length) {
     FILE *file = fopen(name, "rb");
@@ -55,7 +41,7 @@ int main(int arguments, char **words) {
     }
     uint64_t answer = desk_page(register_bytes, register_length, file, file_length, page, sizeof page);
     if (answer != 0 && answer < DESK_PAGE_LINE) {
-        fprintf(stderr, "page: refused with %llu, %s\n", (unsigned long long)answer, reason(answer));
+        fprintf(stderr, "page: refused with %llu, %s\n", (unsigned long long)answer, desk_reason(answer));
         return 1;
     }
     if (fwrite(page, 1, answer, stdout) != answer || fflush(stdout) != 0) {

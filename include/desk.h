@@ -28,6 +28,25 @@ extern "C" {
 static inline uint32_t desk_refusal(uint64_t answer) { return (uint32_t)(answer >> 32); }
 static inline uint32_t desk_quantity(uint64_t answer) { return (uint32_t)answer; }
 
+/* Why a function of this library refuses, in words. */
+static inline const char *desk_reason(uint64_t refusal) {
+    switch (refusal) {
+    case 1: return "the register's count or length is wrong";
+    case 2: return "a class is not 1 to 3";
+    case 3: return "an ISIN is malformed";
+    case 4: return "an ISIN stands earlier in the register";
+    case 5: return "the file's count, width or length is wrong";
+    case 6: return "a kind is not 1 to 9";
+    case 7: return "a spare byte is not zero";
+    case 27: return "a date is invalid or outside 2000 to 2099";
+    case 28: return "the holidays are more than 64, or not strictly ascending";
+    case 29: return "no business day from day 1 to 9,999";
+    case 30: return "the day falls after 2099";
+    case 31: return "the page is too short for its positions";
+    default: return "no refusal of this library";
+    }
+}
+
 /* The step that a class allows r days after the delivery day besides delivery: 4 attempt, 8 cash settlement, 0 none. */
 uint8_t desk_step(uint8_t class_of_security, uint16_t r);
 

@@ -1,6 +1,7 @@
 //! The static library `desk`: its functions as declared there, and safe wrappers.
 
 use second::refusal::Refusal;
+use std::ptr;
 
 mod library {
     #[link(name = "desk", kind = "static")]
@@ -111,9 +112,10 @@ pub fn copy_file(file: &[u8], page: &mut [u8]) -> Answer {
     Answer::unpacked(unsafe { library::desk_copy_file(file.as_ptr(), file.len(), page.as_mut_ptr(), page.len()) })
 }
 
-/// One number answers: the bytes written, or the refusal.
+/// One number answers: the bytes written, or the refusal. No bytes are handed over as NULL, as C may do.
 pub fn page(register: &[u8], file: &[u8], page: &mut [u8]) -> u64 {
     let [register_length, file_length, page_length] = [register.len(), file.len(), page.len()];
-    let (register, file, page) = (register.as_ptr(), file.as_ptr(), page.as_mut_ptr());
+    let [register, file] = [register, file].map(|bytes| if bytes.is_empty() { ptr::null() } else { bytes.as_ptr() });
+    let page = if page.is_empty() { ptr::null_mut() } else { page.as_mut_ptr() };
     unsafe { library::desk_page(register, register_length, file, file_length, page, page_length) }
 }

@@ -43,38 +43,18 @@ figure-fits n h = digits-most 8 n (omega arith)
 pub small-fits : (isins : List ℕ) (n : ℕ) (p : Position) → Small isins n p → Fits (columns isins n p)
 unfolding columns
 small-fits isins n p s =
-    let w = s .whole in
-    let netted = s .netted in (
-      digits-most 3 n (omega (arith, s .number)),
-      (
-        digits-most 1 (p .member) (omega (arith, s .member)),
-        (
-          omega (arith, length-isin isins (p .security) (s .isins-long) (s .security)),
-          (
-            omega arith,
-            (
-              figure-fits (p .netted) netted,
-              (
-                figure-fits (p .delivered) (omega arith),
-                (
-                  figure-fits (p .bought) (omega arith),
-                  (
-                    figure-fits (p .cash) (omega arith),
-                    (
-                      figure-fits (p .unsettled) (omega arith),
-                      (
-                        digits-most 4 (p .settlement .0) (omega (arith, s .settlement)),
-                        tt,
-                      ),
-                    ),
-                  ),
-                ),
-              ),
-            ),
-          ),
-        ),
-      ),
-    )
+    let whole = s .whole in
+    let most = s .netted in
+    let number = digits-most 3 n (omega (arith, s .number)) in
+    let member = digits-most 1 (p .member) (omega (arith, s .member)) in
+    let isin : length (isinOf isins (p .security)) ≤ 12 = omega (arith, length-isin isins (p .security) (s .isins-long) (s .security)) in
+    let netted = figure-fits (p .netted) most in
+    let delivered = figure-fits (p .delivered) (omega arith) in
+    let bought = figure-fits (p .bought) (omega arith) in
+    let cash = figure-fits (p .cash) (omega arith) in
+    let unsettled = figure-fits (p .unsettled) (omega arith) in
+    let settlement = digits-most 4 (p .settlement .0) (omega (arith, s .settlement)) in
+    (number, (member, (isin, (omega arith, (netted, (delivered, (bought, (cash, (unsettled, (settlement, tt))))))))))
 
 -- the columns follow each other in any line
 pub in-order : (isins : List ℕ) (n : ℕ) (p : Position) → inOrder 1 (columns isins n p) ≡ true

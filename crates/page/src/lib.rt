@@ -52,7 +52,7 @@ fn put_figure(page: &mut [u8], first: usize, last: usize, n: u64)
     ensures { λ _. ⌜ now (page .exit) ≡ sets (now (page .entry)) (last - length (digits n)) (digits n) ⌝ }
 {
     let width = last + 1 - first;
-    report::put_right(&mut page[first - 1..], width, n);
+    report::put_right_aligned(&mut page[first - 1..], width, n);
 }
 
 // The ISIN of a security, from place 9 on.

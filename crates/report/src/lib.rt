@@ -60,7 +60,7 @@ fn put_digits(page: &mut [u8], n: u64) -> usize
 
 // The digits of a number, ending where a column of `width` places ends. The column begins where the lent page does, and the places before the
 // digits are kept. Where they do not fit the column, or the column the page, the page is left as it is.
-pub fn put_right(page: &mut [u8], width: usize, n: u64)
+pub fn put_right_aligned(page: &mut [u8], width: usize, n: u64)
     ensures { λ _. ⌜ now (page .exit) ≡ endingAt width (digits n) (now (page .entry)) ⌝ }
 {
     if page.len() < width {

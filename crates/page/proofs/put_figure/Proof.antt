@@ -18,27 +18,27 @@ add-width c = search needs
 sub-width : tie.Need-sub-width
 sub-width c = search needs
 
-sub-put-right : tie.Need-sub-put-right
-sub-put-right c = search needs
+sub-put-right-aligned : tie.Need-sub-put-right-aligned
+sub-put-right-aligned c = search needs
 
-sub-put-right-2 : tie.Need-sub-put-right-2
-sub-put-right-2 c = search needs
+sub-put-right-aligned-2 : tie.Need-sub-put-right-aligned-2
+sub-put-right-aligned-2 c = search needs
 
-part-put-right-start : tie.Need-part-put-right-start
-part-put-right-start c = search needs
+part-put-right-aligned-start : tie.Need-part-put-right-aligned-start
+part-put-right-aligned-start c = search needs
 
-part-put-right-end : tie.Need-part-put-right-end
-part-put-right-end c = search needs
+part-put-right-aligned-end : tie.Need-part-put-right-aligned-end
+part-put-right-aligned-end c = search needs
 
-put-right-requires : tie.Need-put-right-requires
-put-right-requires c κs = search needs
+put-right-aligned-requires : tie.Need-put-right-aligned-requires
+put-right-aligned-requires c κs = search needs
 
 same-length : tie.Need-same-length
 same-length c = search needs
 
 returns : tie.Need-returns
 returns c =
-    let d = c .before .before .put-right in
+    let d = c .before .before .put-right-aligned in
     let s = c .before .before .before .before .before in
     let a = s .args in
     let page = a .page .now in
@@ -58,10 +58,10 @@ put-figure-spec =
     (tie.spec
     add-width
     sub-width
-    sub-put-right
-    sub-put-right-2
-    part-put-right-start
-    part-put-right-end
-    put-right-requires
+    sub-put-right-aligned
+    sub-put-right-aligned-2
+    part-put-right-aligned-start
+    part-put-right-aligned-end
+    put-right-aligned-requires
     same-length
     returns)

@@ -1,4 +1,4 @@
--- `report::put_right` meets its contract. The digits are put into the part of the page where they begin.
+-- `report::put_right_aligned` meets its contract. The digits are put into the part of the page where they begin.
 use Prim.Native.Nat.{_+_, _-_, _≤_}
 use native.Mathlib.Omega.{arith}
 use mathlib.Core.Path.{_≡_, ap, _∙_}
@@ -8,8 +8,8 @@ use borrow.Author.Needs.{needs}
 use borrow.Author.Tests.{lt-ltb, le-ltb}
 use Rattle.report.specs.Digits.{digits}
 use Rattle.report.specs.Pages.{back, lent, length-lent, put-sets, sets-lent}
-use Rattle.report.proofs.put_right.Statement.{statement}
-use Rattle.report.proofs.put_right.Tie as tie
+use Rattle.report.proofs.put_right_aligned.Statement.{statement}
+use Rattle.report.proofs.put_right_aligned.Tie as tie
 
 returns : tie.Need-returns
 returns c =
@@ -59,8 +59,8 @@ returns-3 c =
     rw (le-ltb (length page) (a .width) (e .if1 .left), le-ltb (a .width) (length (digits (a .n))) (omega (arith, count, t .if2 .left)))
     (stored ∙ ap (λ m. sets page m (digits (a .n))) (let z : from + 0 ≡ a .width - length (digits (a .n)) = omega (arith, count) in z))
 
-pub put-right-spec : {M : Type 1} → statement M
-put-right-spec =
+pub put-right-aligned-spec : {M : Type 1} → statement M
+put-right-aligned-spec =
     tie.close
     (tie.spec
     returns
