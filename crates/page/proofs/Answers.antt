@@ -1,14 +1,13 @@
 -- What showing a book answers and leaves of the page, by what was found before.
-use Prim.Native.Nat.{ℕ, zero, suc, _+_, _*_, _≤_, _<_}
+use Prim.Native.Nat.{ℕ, _+_, _*_, _≤_, _<_}
 use native.Mathlib.Numerals.{add-one}
 use native.Mathlib.Omega.{arith}
-use mathlib.Core.Path.{_≡_, refl, ap, sym, _∙_}
+use mathlib.Core.Path.{_≡_, ap, sym, _∙_}
 use mathlib.Core.List.{List, [], _∷_, _++_}
 use lib.ListN.{length, getD, drop}
 use lib.Seq.{getD-take, length-take-le}
-use borrow.Author.Tests.{lt-ltb, le-ltb, ne-eqb}
-use Rattle.laws.specs.Refusals.{_⇒_, choose, first, accepted-not}
-use Rattle.laws.specs.WordLaws.{nonzero}
+use borrow.Author.Tests.{lt-ltb, le-ltb}
+use Rattle.laws.specs.Refusals.{_⇒_, first, accepted-not}
 use Rattle.laws.specs.Asked.{Within}
 use Rattle.plain.specs.Book.{Book, noPosition, positionOf}
 use Rattle.plain.proofs.Numbered.{place-nth}
@@ -17,7 +16,7 @@ use Rattle.tables.specs.Tables.{positions}
 use Rattle.kept.specs.View.{view}
 use Rattle.calls.specs.declared.Core.{Core}
 use Rattle.calls.specs.View.{Numbers, bookOf, Held}
-use Rattle.replay.specs.Replay.{replayRefusal}
+use Rattle.replay.specs.Replay.{replayRefusal, decides}
 use Rattle.page.specs.Columns.{LINE}
 use Rattle.page.specs.Page.{pageText, Showable}
 use Rattle.page.specs.Answer.{endOf, tooShort, pageRefusal, answered, left, pageAnswer, pageAfter, Shown}
@@ -71,17 +70,12 @@ module _ (core : Core) (a : Numbers) (held : Held core a) where
 
 -- ---- register and file
 
--- a number that refuses decides
-deciding : (n rest : ℕ) → (n ≡ 0 → ⊥) → choose (nonzero n) n rest ≡ n
-deciding zero rest h = absurd (h refl)
-deciding (suc n) rest h = rw (ne-eqb (suc n) 0 (λ z. omega arith))
-
 module _ (register file page : List ℕ) where
   pub refused : (number : ℕ) → number ≡ replayRefusal register file → (number ≡ 0 → ⊥) → (number ≡ pageAnswer register file page) × (page ≡ pageAfter register file page)
   unfolding pageRefusal pageAnswer pageAfter answered left
   refused number e h =
       let n = pageRefusal register file (length page) in
-      let same : n ≡ number = deciding (replayRefusal register file) (first ((tooShort (endOf register file) (length page) ⇒ 31) ∷ [])) (λ z. h (e ∙ z)) ∙ sym e in
+      let same : n ≡ number = decides (replayRefusal register file) (first ((tooShort (endOf register file) (length page) ⇒ 31) ∷ [])) (λ z. h (e ∙ z)) ∙ sym e in
       let other : n ≡ 0 → ⊥ = λ z. h (sym same ∙ z) in
       (sym (accepted-not n _ n other ∙ same), sym (accepted-not n _ page other))
 

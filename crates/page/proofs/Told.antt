@@ -7,7 +7,6 @@ use mathlib.Core.List.{List, [], _∷_}
 use mathlib.Core.Bool.{Bool, true, false, not}
 use lib.ListN.{length, take, drop}
 use lib.Dec.{ltb, eqb}
-use borrow.Author.Tests.{ne-eqb}
 use Rattle.laws.specs.Limits.{EVENTS}
 use Rattle.laws.specs.Words.{word16At}
 use Rattle.laws.specs.Lists.{All, each, range}
@@ -17,7 +16,7 @@ use Rattle.laws.specs.WordLaws.{nonzero}
 use Rattle.register.specs.Register as register
 use Rattle.events.specs.Layout.{WIDTH-AT, BODY}
 use Rattle.events.specs.File as file
-use Rattle.replay.specs.Replay.{replayRefusal, passing-register}
+use Rattle.replay.specs.Replay.{replayRefusal, passed-zero, passing-register}
 use Rattle.page.specs.Answer.{endOf, tooShort, pageRefusal, answered, pageAnswer}
 use Rattle.page.specs.Laws.{Told}
 use Rattle.page.proofs.Legible.{every-page}
@@ -77,11 +76,7 @@ module _ (bytes events : List ℕ) (room : ℕ) where
   -- where the page is not refused, register and file are not
   not-refused : pageRefusal bytes events room ≡ 0 → replayRefusal bytes events ≡ 0
   unfolding pageRefusal
-  not-refused e = first-zero (replayRefusal bytes events) (tooShort (endOf bytes events) room) e
-    where
-      first-zero : (n : ℕ) (t : Bool) → first ((nonzero n ⇒ n) ∷ (t ⇒ 31) ∷ []) ≡ 0 → n ≡ 0
-      first-zero zero t e = refl
-      first-zero (suc n) t e = absurd (omega (arith, rw (ne-eqb (suc n) 0 (λ z. omega arith)) at e))
+  not-refused e = passed-zero (replayRefusal bytes events) (first ((tooShort (endOf bytes events) room ⇒ 31) ∷ [])) e
 
 -- for all bytes
 pub told : (register file page : List ℕ) → Told register file page

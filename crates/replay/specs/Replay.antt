@@ -4,7 +4,7 @@ use native.Mathlib.Omega.{arith}
 use mathlib.Core.Path.{_≡_, refl, _∙_}
 use borrow.Author.Tests.{ne-eqb}
 use mathlib.Core.List.{List, [], _∷_}
-use Rattle.laws.specs.Refusals.{_⇒_, first, accepted}
+use Rattle.laws.specs.Refusals.{_⇒_, choose, first, accepted}
 use Rattle.laws.specs.WordLaws.{nonzero}
 use Rattle.register.specs.Register.{registerRead}
 use Rattle.events.specs.declared.Event.{Event}
@@ -69,19 +69,24 @@ pub deciding : (n : ℕ) → n ≡ first ((nonzero n ⇒ n) ∷ [])
 deciding zero = refl
 deciding (suc n) = rw (ne-eqb (suc n) 0 (λ z. omega arith))
 
+-- before any other reason too: a number that is not 0 is the refusal, and where nothing is refused it is 0
+pub decides : (n rest : ℕ) → (n ≡ 0 → ⊥) → choose (nonzero n) n rest ≡ n
+decides zero rest h = absurd (h refl)
+decides (suc n) rest h = rw (ne-eqb (suc n) 0 (λ z. omega arith))
+
+pub passed-zero : (n rest : ℕ) → choose (nonzero n) n rest ≡ 0 → n ≡ 0
+passed-zero zero rest e = refl
+passed-zero (suc n) rest e = absurd (omega (arith, decides (suc n) rest (λ z. omega arith), e))
+
 -- where neither is refused, the file is not
 second-zero : (a b : ℕ) → first ((nonzero a ⇒ a) ∷ (nonzero b ⇒ b) ∷ []) ≡ 0 → b ≡ 0
 second-zero zero b e = deciding b ∙ e
-second-zero (suc a) b e = absurd (omega (arith, rw (ne-eqb (suc a) 0 (λ z. omega arith)) at e))
-
-first-zero : (a b : ℕ) → first ((nonzero a ⇒ a) ∷ (nonzero b ⇒ b) ∷ []) ≡ 0 → a ≡ 0
-first-zero zero b e = refl
-first-zero (suc a) b e = absurd (omega (arith, rw (ne-eqb (suc a) 0 (λ z. omega arith)) at e))
+second-zero (suc a) b e = absurd (omega (arith, passed-zero (suc a) (first ((nonzero b ⇒ b) ∷ [])) e))
 
 -- and the register is not
 pub passing-register : (register file : List ℕ) → replayRefusal register file ≡ 0 → registerRead register .number ≡ 0
 unfolding replayRefusal
-passing-register register file e = first-zero (registerRead register .number) (refusal file) e
+passing-register register file e = passed-zero (registerRead register .number) (first ((nonzero (refusal file) ⇒ refusal file) ∷ [])) e
 
 pub passing-file : (register file : List ℕ) → replayRefusal register file ≡ 0 → refusal file ≡ 0
 unfolding replayRefusal
