@@ -47,6 +47,16 @@ PRICE-AT = 8
 abbrev pub LAST-AT : ℕ
 LAST-AT = 12
 
+-- a body as two words: the bytes of each, and where they begin
+abbrev pub WORD : ℕ
+WORD = 8
+
+abbrev pub LOW-AT : ℕ
+LOW-AT = 0
+
+abbrev pub HIGH-AT : ℕ
+HIGH-AT = 8
+
 -- a row of marks in which no byte is used
 abbrev pub unmarked : List ℕ
 unmarked = replicate BODY 0

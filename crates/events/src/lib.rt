@@ -10,9 +10,10 @@ ghost use Rattle.laws.specs.Limits.{EVENTS};
 ghost use Rattle.laws.specs.Lists.{All, each};
 ghost use Rattle.laws.specs.Parts.{padded};
 ghost use Rattle.laws.specs.Refusals;
-ghost use Rattle.laws.specs.Words.{word16At, word32At, bytes16, bytes32};
-ghost use Rattle.events.specs.Layout.{BODY, HEADER, marksOf};
-ghost use Rattle.events.specs.Body.{Fits, InWidth, body, bodyOf, eventFrom, fields, fieldsAt, fieldsOf, kindOf, spareByte, spareIn};
+ghost use Rattle.laws.specs.Words.{word16At, word32At, word64At, bytes16, bytes32};
+ghost use Rattle.events.specs.Layout.{BODY, HEADER};
+ghost use Rattle.events.specs.Body.{Fits, InWidth, body, bodyOf, eventFrom, fields, fieldsAt, fieldsOf, kindOf, spareSet};
+ghost use Rattle.events.specs.Masks.{bodyBytes, masksOf};
 ghost use Rattle.events.specs.File.{ReadsBack, answer, bodiesIn, checks, copyingRefusal, count, eventsOf, fileOf, kindsIn, numberOf, pageAfter, quantityOf, reasons, refusal, size, writingRefusal};
 use laws::EVENTS;
 
@@ -88,6 +89,9 @@ pub struct Fields {
     pub price: u32,
 }
 
+// Two masks: which bytes of a body are to be zero, of the first eight and of the last eight.
+struct Masks(u64, u64);
+
 // What writing answers: the bytes written, or the number of the refusal.
 pub enum Written {
     Done(u32),
@@ -131,22 +135,10 @@ const PRICE_AT: usize = 8;
 
 const LAST_AT: usize = 12;
 
-// The bytes of a body that a kind uses, marked 1, a row for each number from 0, which is no kind, to 9.
-const USED: [[u8; BODY]; 1 + KINDS as usize] = [
-    [0, 0, 0, 0, 0, 0, 0, 0, 0, 0, 0, 0, 0, 0, 0, 0],
-    // 1 trade, 2 price, 3 delivery
-    [1, 1, 1, 1, 1, 1, 1, 1, 1, 1, 1, 1, 0, 0, 0, 0],
-    [1, 1, 0, 0, 0, 0, 0, 0, 1, 1, 1, 1, 0, 0, 0, 0],
-    [1, 1, 0, 0, 1, 1, 1, 1, 0, 0, 0, 0, 0, 0, 0, 0],
-    // 4 attempt, 5 offer, 6 award
-    [1, 1, 0, 0, 0, 0, 0, 0, 0, 0, 0, 0, 0, 0, 0, 0],
-    [1, 1, 1, 0, 1, 1, 1, 1, 1, 1, 1, 1, 0, 0, 0, 0],
-    [1, 1, 0, 0, 0, 0, 0, 0, 0, 0, 0, 0, 0, 0, 0, 0],
-    // 7 confirm, 8 cash, 9 close
-    [1, 1, 0, 0, 0, 0, 0, 0, 0, 0, 0, 0, 0, 0, 0, 0],
-    [1, 1, 0, 0, 0, 0, 0, 0, 0, 0, 0, 0, 0, 0, 0, 0],
-    [0, 0, 0, 0, 0, 0, 0, 0, 0, 0, 0, 0, 0, 0, 0, 0],
-];
+// Where the two words of eight bytes begin that a body is tested by.
+const LOW_AT: usize = 0;
+
+const HIGH_AT: usize = 8;
 
 // The byte at a place; a byte past the end counts 0.
 fn byte_at(bytes: &[u8], at: usize) -> u8
@@ -172,6 +164,13 @@ fn word32_at(bytes: &[u8], at: usize) -> u32
         byte_at(bytes, at + 2),
         byte_at(bytes, at + 3),
     )
+}
+
+fn word64_at(bytes: &[u8], at: usize) -> u64
+    requires { ⌜ at < 2147483648 ⌝ }
+    ensures { λ r. ⌜ r ≡ word64At (now (bytes .entry)) at ⌝ }
+{
+    words::word64(word32_at(bytes, at), word32_at(bytes, at + 4))
 }
 
 fn fields_with(subject: u16, first: u8, second: u8, quantity: u32, price: u32) -> Fields
@@ -273,42 +272,53 @@ pub fn event_at(file: &[u8], i: usize) -> Event
     event_from(kind, fields)
 }
 
-// The marks of a kind; a byte that is no kind uses no byte of a body.
-fn marks_of(kind: u8) -> [u8; BODY]
-    ensures { λ r. ⌜ r ≡ marksOf kind ⌝ }
+// The masks of a kind, of the first eight bytes of a body and of the last eight: ff at each byte that is spare in the kind, 00 at
+// those that it uses, the lowest byte on the right. The compiler keeps the arms as a table; an array it would build at each call.
+fn masks_of(kind: u8) -> Masks
+    ensures { λ r. ⌜ r ≡ masksOf kind ⌝ }
 {
-    if KINDS < kind {
-        return [0; BODY];
+    match kind {
+        // 1 trade, 2 price, 3 delivery
+        1 => Masks(0x0000_0000_0000_0000, 0xffff_ffff_0000_0000),
+        2 => Masks(0xffff_ffff_ffff_0000, 0xffff_ffff_0000_0000),
+        3 => Masks(0x0000_0000_ffff_0000, 0xffff_ffff_ffff_ffff),
+        // 4 attempt, 5 offer, 6 award
+        4 => Masks(0xffff_ffff_ffff_0000, 0xffff_ffff_ffff_ffff),
+        5 => Masks(0x0000_0000_ff00_0000, 0xffff_ffff_0000_0000),
+        6 => Masks(0xffff_ffff_ffff_0000, 0xffff_ffff_ffff_ffff),
+        // 7 confirm, 8 cash, 9 close
+        7 => Masks(0xffff_ffff_ffff_0000, 0xffff_ffff_ffff_ffff),
+        8 => Masks(0xffff_ffff_ffff_0000, 0xffff_ffff_ffff_ffff),
+        9 => Masks(0xffff_ffff_ffff_ffff, 0xffff_ffff_ffff_ffff),
+        // A byte that is no kind uses none.
+        _ => Masks(0xffff_ffff_ffff_ffff, 0xffff_ffff_ffff_ffff),
     }
-    USED[kind as usize]
 }
 
-// Whether a byte is spare and yet not zero.
-fn spare_byte(mark: u8, byte: u8) -> bool
-    ensures { λ r. ⌜ r ≡ spareByte mark byte ⌝ }
+// Whether a byte that is spare in a kind is not zero, in the body that two words make.
+fn spare_set(kind: u8, low: u64, high: u64) -> bool
+    ensures { λ r. ⌜ r ≡ spareSet kind (bodyBytes low high) ⌝ }
 {
-    if mark != 0 { false } else { byte != 0 }
+    let masks = masks_of(kind);
+    if low & masks.0 != 0 {
+        return true;
+    }
+    high & masks.1 != 0
 }
 
-// Whether a spare byte of the body that begins at a place is not zero.
-fn spare_set(file: &[u8], at: usize, marks: [u8; BODY]) -> bool
-    requires { ⌜ at < 2147483648 ⌝ }
-    ensures { λ r. ⌜ r ≡ spareIn marks (take BODY (drop at (now (file .entry)))) ⌝ }
+// The same of the body that begins at a place. It is lent as a part of sixteen bytes, so that the compiler sees that no byte is
+// missing and reads each word at once.
+fn body_spare_set(kind: u8, file: &[u8], at: usize) -> bool
+    requires { ⌜ at + BODY ≤ length (now file) ⌝ }
+    ensures { λ r. ⌜ r ≡ spareSet kind (take BODY (drop at (now (file .entry)))) ⌝ }
 {
-    let mut j: usize = 0;
-    while j < BODY {
-        let byte = byte_at(file, at + j);
-        if spare_byte(marks[j], byte) {
-            return true;
-        }
-        j += 1;
-    }
-    false
+    let body = &file[at..at + BODY];
+    spare_set(kind, word64_at(body, LOW_AT), word64_at(body, HIGH_AT))
 }
 
 // Refusal 6 or 7 of the event whose kind byte and body stand at two places, or 0.
 fn event_refusal(file: &[u8], place: usize, at: usize) -> u8
-    requires { ⌜ at < 2147483648 ⌝ }
+    requires { ⌜ at + BODY ≤ length (now file) ⌝ }
     ensures { λ r. ⌜ r ≡ Refusals.first (reasons (getD (now (file .entry)) place 0) (take BODY (drop at (now (file .entry))))) ⌝ }
 {
     let kind = byte_at(file, place);
@@ -318,7 +328,7 @@ fn event_refusal(file: &[u8], place: usize, at: usize) -> u8
     if KINDS < kind {
         return KIND;
     }
-    if spare_set(file, at, marks_of(kind)) {
+    if body_spare_set(kind, file, at) {
         return SPARE;
     }
     0

@@ -4,7 +4,7 @@ use native.Mathlib.Nat.{add-zero}
 use native.Mathlib.Omega.{arith}
 use mathlib.Core.Path.{_≡_, refl, ap, sym, _∙_}
 use mathlib.Core.List.{List, [], _∷_, _++_, map}
-use mathlib.Core.Bool.{Bool, true, false, _||_, true≢false}
+use mathlib.Core.Bool.{Bool, true, false, _||_, or-assoc, or-true, true≢false}
 use lib.ListN.{length, getD, set, replicate}
 use Rattle.laws.specs.Asked.{Said, passed, failed, ask}
 use Rattle.laws.specs.Lists.{range, keep, each, number, some, All}
@@ -80,21 +80,13 @@ some-of test P R (x ∷ xs) e h f = go (ask (test x)) (λ k. some-of test P R xs
     go (passed t) rest = f x t (h .0)
     go (failed t) rest = rest (rw t at e)
 
-some-more : (t a b : Bool) → t || a ≡ true → (a ≡ true → b ≡ true) → t || b ≡ true
-some-more true a b e f = refl
-some-more false a b e f = f e
-
-pub some-append : {A : Type 0} (test : A → Bool) (xs ys : List A) → some test xs ≡ true → some test (xs ++ ys) ≡ true
-some-append test [] ys e = absurd (true≢false (sym e))
-some-append test (x ∷ xs) ys e = some-more (test x) (some test xs) (some test (xs ++ ys)) e (λ k. some-append test xs ys k)
-
-some-later : (t b : Bool) → b ≡ true → t || b ≡ true
-some-later true b e = refl
-some-later false b e = e
+pub some-append : {A : Type 0} (test : A → Bool) (xs ys : List A) → some test (xs ++ ys) ≡ some test xs || some test ys
+some-append test [] ys = refl
+some-append test (x ∷ xs) ys =
+    ap (λ (t : Bool). test x || t) (some-append test xs ys) ∙ sym (or-assoc (test x) (some test xs) (some test ys))
 
 pub some-last : {A : Type 0} (test : A → Bool) (xs : List A) (y : A) → test y ≡ true → some test (xs ++ y ∷ []) ≡ true
-some-last test [] y e = rw e
-some-last test (x ∷ xs) y e = some-later (test x) (some test (xs ++ y ∷ [])) (some-last test xs y e)
+some-last test xs y e = some-append test xs (y ∷ []) ∙ rw e (or-true (some test xs))
 
 pub getD-number : {A B : Type 0} (f : ℕ → B → A) (n : ℕ) (xs : List B) (i : ℕ) (a : A) (b : B) → i < length xs → getD (number f n xs) i a ≡ f (n + i) (getD xs i b)
 getD-number f n [] i a b h = absurd (omega arith)

@@ -11,3 +11,4 @@ pub mod Integers
 pub mod Ranges
 pub mod WordLaws
 pub mod Parts
+pub mod Masks

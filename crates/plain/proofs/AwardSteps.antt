@@ -4,11 +4,11 @@ use native.Mathlib.Omega.{arith}
 use mathlib.Core.Path.{_≡_, refl, ap, sym, _∙_}
 use mathlib.Core.Logic.{_≢_}
 use mathlib.Core.List.{List, [], _∷_, _++_}
-use mathlib.Core.Bool.{Bool, true, false, not, cond, _&&_, true≢false}
+use mathlib.Core.Bool.{Bool, true, false, not, cond, _&&_, _||_, true≢false}
 use lib.ListN.{length, getD, length-append}
 use lib.Dec.{ltb, leb, eqb}
 use borrow.Author.Tests.{eq-eqb, ne-eqb, eqb-true, eqb-false, ltb-true, lt-ltb, le-ltb}
-use Rattle.laws.specs.Lists.{All, only, keep, sum, number}
+use Rattle.laws.specs.Lists.{All, only, keep, some, sum, number}
 use Rattle.laws.specs.Asked.{Said, passed, failed, ask, and-left, and-right}
 use Rattle.laws.specs.Sums.{only-le, sum-keep}
 use Rattle.laws.specs.Alls.{all-append, all-keep, all-of, all-number, length-number, some-append, some-last}
@@ -59,7 +59,7 @@ attempt-keeps b a ceiling t h =
       awards-fit = h .awards-fit;
       awards-marked =
           all-of (λ x. marked (b .marks) (x .position) ≡ true) (λ x. marked (b .marks ++ a .position ∷ []) (x .position) ≡ true) (b .awards)
-          (λ x e. some-append (λ k. eqb k (x .position)) (b .marks) (a .position ∷ []) e) (h .awards-marked);
+          (λ x e. some-append (λ k. eqb k (x .position)) (b .marks) (a .position ∷ []) ∙ ap (λ (t : Bool). t || some (λ k. eqb k (x .position)) (a .position ∷ [])) e) (h .awards-marked);
       few-awards = omega (arith, h .few-awards, length-append (b .marks) (a .position ∷ []), only-le (ltb 0 (a .position)) 16);
       covered = h .covered;
     }
