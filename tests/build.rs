@@ -1,5 +1,5 @@
 //! Says where the static libraries are that `rt staticlib desk` and `rt staticlib probe` write at the repository's root.
-//! The comparison alone links them (src/desk.rs, src/probe.rs), so the benchmark builds without them.
+//! The comparison and the benchmark link the first (src/desk.rs), the comparison alone the second (src/probe.rs).
 
 fn main() {
     let package = std::env::var("CARGO_MANIFEST_DIR").expect("cargo names the package's folder");

@@ -1,6 +1,6 @@
 //! Named checks: each compares many answers of the desk with the second implementation and counts as one test.
 
-use crate::desk::Answer;
+use fails_book_tests::desk::Answer;
 use fails_book_tests::random::Random;
 use std::collections::BTreeMap;
 use std::fmt::Debug;

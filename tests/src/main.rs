@@ -5,7 +5,6 @@
 
 mod check;
 mod compare;
-mod desk;
 mod probe;
 mod xml;
 

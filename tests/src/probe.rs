@@ -1,6 +1,6 @@
 //! The static library `probe`: its functions as declared there, and safe wrappers.
 
-use crate::desk::Answer;
+use fails_book_tests::desk::Answer;
 
 mod library {
     #[link(name = "probe", kind = "static")]

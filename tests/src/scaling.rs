@@ -1,4 +1,5 @@
-//! For the benchmark: inputs that show the time of one event of each kind, by the number of positions.
+//! For the benchmark: inputs that show the time of one event of each kind, by the number of positions, and inputs whose
+//! file has as many events as it takes, all of one kind.
 //!
 //! For each kind there are two inputs, alike but for events of that kind, of which the second has more. The difference
 //! of their times, divided by the number of these events, is the time in which one is read, played and printed.
@@ -132,6 +133,17 @@ fn closes(positions: usize) -> Pair {
     with_more(Input::new(1, positions, 5), ACCEPTED, std::iter::repeat(Event::Close))
 }
 
+/// A file of closes alone, on a book without positions.
+pub fn full_of_closes() -> Input {
+    Input::of_calls(accepted([Event::Close; MOST_EVENTS]).collect())
+}
+
+/// A file of trades alone. The book takes the first 512; no day is closed, so none makes a position.
+pub fn full_of_trades() -> Input {
+    let refusal = |at| if at < MOST_TRADES { ACCEPTED } else { Refusal::TradesFull as u32 };
+    Input::of_calls((0..MOST_EVENTS).map(|at| (trade(at % MOST_TRADES), refusal(at))).collect())
+}
+
 /// The input with one of these events, and the same with as many of them as the file has room for. What a program does
 /// just at its first event of the kind is thus in both.
 fn with_more(mut fewer: Input, refusal: u32, events: impl Iterator<Item = Event>) -> Pair {
@@ -214,6 +226,10 @@ fn security(at: usize) -> u16 {
     (1 + at % SECURITIES) as u16
 }
 
+fn register_of(class: u8) -> Vec<Security> {
+    with_classes(&mut Random::new(1, "scaling"), &[class; SECURITIES])
+}
+
 fn first_day_trades(positions: usize) -> usize {
     (positions / 2).div_ceil(2)
 }
@@ -236,8 +252,7 @@ impl Input {
     /// A book of so many positions and securities of one class, on a day after the second. The shorts of the second
     /// trade day are at r = day - 4.
     fn new(class: u8, positions: usize, day: usize) -> Input {
-        let register = with_classes(&mut Random::new(1, "scaling"), &[class; SECURITIES]);
-        let mut input = Input { register, calls: Vec::new(), positions };
+        let mut input = Input { register: register_of(class), calls: Vec::new(), positions };
         input.calls.extend(accepted((0..SECURITIES).map(price)));
         let first_day = first_day_trades(positions);
         input.calls.extend(accepted((0..first_day).map(trade)));
@@ -245,6 +260,11 @@ impl Input {
         input.calls.extend(accepted((first_day..positions / 2).map(trade)));
         input.close(day - 2);
         input
+    }
+
+    /// These calls on a new book, which leave it without positions.
+    fn of_calls(calls: Vec<Call>) -> Input {
+        Input { register: register_of(1), calls, positions: 0 }
     }
 
     fn close(&mut self, days: usize) {
@@ -258,8 +278,12 @@ impl Input {
 
     /// The player's input: register, then file.
     pub fn bytes(&self) -> Vec<u8> {
+        [register::bytes_of(&self.register), self.file()].concat()
+    }
+
+    pub fn file(&self) -> Vec<u8> {
         let events: Vec<Event> = self.calls.iter().map(|&(event, _)| event).collect();
-        [register::bytes_of(&self.register), file_of(&events)].concat()
+        file_of(&events)
     }
 
     /// That a transcript has for each event the refusal meant here, for each accepted discharge one piece, and the

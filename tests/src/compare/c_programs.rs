@@ -3,7 +3,7 @@
 use super::programs::{ended, full, root, squeeze, Ended, Scratch, SQUEEZE_PAGE};
 use super::same;
 use crate::check::{Check, Tests};
-use crate::desk::Answer;
+use fails_book_tests::desk::Answer;
 use fails_book_tests::histories::registers::completed;
 use second::events::{file_of, Event, MOST_EVENTS};
 use second::register::{self, bytes_of, Security, MOST_SECURITIES};

@@ -3,7 +3,7 @@
 
 use super::hex;
 use crate::check::{Check, Round, Tests};
-use crate::desk::{self, Answer};
+use fails_book_tests::desk::{self, Answer};
 use fails_book_tests::random::Random;
 use second::calendar::Calendar;
 use std::collections::BTreeSet;

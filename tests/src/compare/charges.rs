@@ -1,7 +1,7 @@
 //! Day windows, prices, fees and fines.
 
 use crate::check::{Check, Round, Tests};
-use crate::desk;
+use fails_book_tests::desk;
 use fails_book_tests::random::Random;
 use second::{charges, windows};
 

@@ -2,7 +2,7 @@
 
 use super::{hex, Hex};
 use crate::check::{Check, Round, Tests};
-use crate::desk::{self, Answer};
+use fails_book_tests::desk::{self, Answer};
 use fails_book_tests::histories::{damage, random_event};
 use fails_book_tests::random::Random;
 use second::events::{self, Body, Event, MOST_EVENTS, WIDTH};
@@ -15,6 +15,10 @@ pub fn exhaustive(tests: &mut Tests) {
     tests.check("files: none, few and the most events", &[0, 5], counts_of_events);
     tests.check("files: each kind byte", &[0, 6], each_kind_byte);
     tests.check("files: each value of each body byte of each kind", &[0, 7], each_value_of_each_body_byte);
+    tests.check("files: no spare byte set, among trades", &[0], no_spare_byte);
+    tests.check("files: each bit of a body of each kind, among trades", &[0, 7], each_bit_of_each_kind);
+    tests.check("files: each bit of a body of no kind, among trades", &[6], each_bit_of_no_kind);
+    tests.check("files: two spare bytes whose sum or exclusive or is zero", &[7], each_two_spare_bytes);
     tests.check("files: each small count with each length", &[0, 5], counts_with_lengths);
     tests.check("files: each width", &[0, 5], each_width);
     tests.check("files: faults of two events, in both orders", &[6, 7], faults_of_two_events);
@@ -26,6 +30,9 @@ pub fn seeded(round: &mut Round) {
     round.check("files: damaged", &[0, 5, 6, 7], damaged_files);
     round.check("files: long and damaged in one place", &[0, 5, 6, 7], long_files_damaged_in_one_place);
     round.check("files: random bytes", &[0, 5, 6, 7], files_of_random_bytes);
+    round.check("files: random bodies of any kind", &[0, 6, 7], random_bodies);
+    round.check("files: random used bytes, one spare byte set or none", &[0, 7], one_spare_byte_or_none);
+    round.check("files: closes whose two words are the same or opposite", &[7], closes_of_two_words);
     round.check("pages: random files and sizes", &[0, 5, 6, 7], random_files_and_page_sizes);
 }
 
@@ -78,6 +85,71 @@ fn body_byte(check: &mut Check, random: &mut Random, kind: u8, at: usize, value:
     let mut body = random_event(random, kind).body();
     body[at] = value;
     read(check, &file_of_bodies(&[(kind, body)]));
+}
+
+fn no_spare_byte(check: &mut Check) {
+    for kind in 1..=9 {
+        for body in [[0; WIDTH], full(kind)] {
+            among_full_trades(check, (kind, body), 0);
+        }
+    }
+}
+
+/// Each bit turned over in bodies without a spare byte set.
+fn each_bit_of_each_kind(check: &mut Check) {
+    let mut random = Random::new(0, "bits");
+    for kind in 1..=9 {
+        for bit in 0..8 * WIDTH {
+            let refusal = if used(kind).contains(&(bit / 8)) { 0 } else { 7 };
+            for mut body in [[0; WIDTH], random_event(&mut random, kind).body(), full(kind)] {
+                body[bit / 8] ^= 1 << (bit % 8);
+                among_full_trades(check, (kind, body), refusal);
+            }
+        }
+    }
+}
+
+fn each_bit_of_no_kind(check: &mut Check) {
+    for kind in (0..=u8::MAX).filter(|kind| !(1..=9).contains(kind)) {
+        for bit in 0..8 * WIDTH {
+            let mut body = [0; WIDTH];
+            body[bit / 8] = 1 << (bit % 8);
+            among_full_trades(check, (kind, body), 6);
+        }
+    }
+}
+
+/// The event in each place of one to eight, so that its body begins at each place modulo 8. The trades around it have
+/// each used byte set, so that a test which read them would refuse what is to pass.
+fn among_full_trades(check: &mut Check, tried: (u8, Body), refusal: u32) {
+    for count in 1..=8 {
+        let expected = if refusal == 0 { Answer::accepted(count as u32) } else { Answer::refused(refusal) };
+        for at in 0..count {
+            let mut events = vec![(1, full(1)); count];
+            events[at] = tried;
+            known(check, &file_of_bodies(&events), expected);
+        }
+    }
+}
+
+fn each_two_spare_bytes(check: &mut Check) {
+    for kind in 1..=9 {
+        for first in spare(kind) {
+            for second in spare(kind).filter(|&second| second != first) {
+                two_spare_bytes(check, kind, first, second);
+            }
+        }
+    }
+}
+
+/// Values whose exclusive or or sum is zero, as bytes or, in the last bytes of the two words, as words.
+fn two_spare_bytes(check: &mut Check, kind: u8, first: usize, second: usize) {
+    for values in [[1, 1], [128, 128], [255, 255], [255, 1], [254, 2]] {
+        for mut body in [[0; WIDTH], full(kind)] {
+            [body[first], body[second]] = values;
+            known(check, &file_of_bodies(&[(kind, body)]), Answer::refused(7));
+        }
+    }
 }
 
 fn counts_with_lengths(check: &mut Check) {
@@ -179,6 +251,42 @@ fn files_of_random_bytes(check: &mut Check, random: &mut Random) {
     }
 }
 
+fn random_bodies(check: &mut Check, random: &mut Random) {
+    for _ in 0..20_000 {
+        let kind = random.below(11) as u8;
+        // Were each byte set, each event would be refused.
+        let set = random.pick(&[1, 4, 16, 64]);
+        let body = std::array::from_fn(|_| if random.one_in(set) { random.byte() } else { 0 });
+        read(check, &file_of_bodies(&among_random_events(random, (kind, body))));
+    }
+}
+
+fn one_spare_byte_or_none(check: &mut Check, random: &mut Random) {
+    for _ in 0..20_000 {
+        let kind = random.between(1, 9) as u8;
+        let mut body = [0; WIDTH];
+        used(kind).iter().for_each(|&at| body[at] = random.byte());
+        let value = if random.one_in(2) { random.byte() } else { 0 };
+        body[random.pick(&spare(kind).collect::<Vec<usize>>())] = value;
+        let events = among_random_events(random, (kind, body));
+        let expected = if value == 0 { Answer::accepted(events.len() as u32) } else { Answer::refused(7) };
+        known(check, &file_of_bodies(&events), expected);
+    }
+}
+
+/// The words are the same, or their sum or conjunction is zero.
+fn closes_of_two_words(check: &mut Check, random: &mut Random) {
+    for _ in 0..5_000 {
+        let word = random.sized_word().max(1);
+        for other in [word, word.wrapping_neg(), !word] {
+            let mut body = [0; WIDTH];
+            body[..8].copy_from_slice(&word.to_le_bytes());
+            body[8..].copy_from_slice(&other.to_le_bytes());
+            known(check, &file_of_bodies(&among_random_events(random, (9, body))), Answer::refused(7));
+        }
+    }
+}
+
 fn random_files_and_page_sizes(check: &mut Check, random: &mut Random) {
     for _ in 0..10_000 {
         let file = damaged_file(random);
@@ -237,6 +345,26 @@ fn used(kind: u8) -> &'static [usize] {
         4 | 6 | 7 | 8 => &[0, 1],
         _ => &[],
     }
+}
+
+fn spare(kind: u8) -> impl Iterator<Item = usize> {
+    (0..WIDTH).filter(move |at| !used(kind).contains(at))
+}
+
+/// The body in which each used byte is 255.
+fn full(kind: u8) -> Body {
+    let mut body = [0; WIDTH];
+    used(kind).iter().for_each(|&at| body[at] = 255);
+    body
+}
+
+/// The event in any place among up to seven others, which have no fault.
+fn among_random_events(random: &mut Random, tried: (u8, Body)) -> Vec<(u8, Body)> {
+    let others = random.below(8);
+    let events = random_events(random, others);
+    let mut events: Vec<(u8, Body)> = events.iter().map(|event| (event.kind(), event.body())).collect();
+    events.insert(random.below(others + 1), tried);
+    events
 }
 
 fn file_of_bodies(events: &[(u8, Body)]) -> Vec<u8> {

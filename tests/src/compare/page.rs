@@ -6,7 +6,7 @@ mod known;
 
 use super::player::{example, input, shown, squeeze};
 use crate::check::{Check, Round, Tests};
-use crate::desk::{self, Answer};
+use fails_book_tests::desk::{self, Answer};
 use fails_book_tests::histories;
 use fails_book_tests::random::Random;
 use second::book::{Book, SHEET_PLACES};

@@ -2,7 +2,7 @@
 
 use super::{hex, same};
 use crate::check::{Check, Round, Tests};
-use crate::desk::Answer;
+use fails_book_tests::desk::Answer;
 use fails_book_tests::histories::{self, survey::Survey};
 use second::events::{file_of, Event};
 use second::register::bytes_of;

@@ -2,7 +2,7 @@
 
 use super::hex;
 use crate::check::{Check, Round, Tests};
-use crate::desk::{self, Answer};
+use fails_book_tests::desk::{self, Answer};
 use fails_book_tests::histories::damage;
 use fails_book_tests::histories::registers::{completed, different, random_isin, CAPITALS, DIGITS};
 use fails_book_tests::random::Random;

@@ -3,8 +3,8 @@
 use super::hex;
 use super::player::input;
 use crate::check::{Check, Round, Tests};
-use crate::desk::Answer;
 use crate::probe;
+use fails_book_tests::desk::Answer;
 use fails_book_tests::histories;
 use second::events::Event;
 use second::transcript;
