@@ -12,7 +12,7 @@ unfoldable pub bytesOf : ℕ → ℕ → List ℕ
 bytesOf zero word = []
 bytesOf (suc n) word = word % 256 ∷ bytesOf n (word / 256)
 
--- the words that two and four bytes make, and two words of four bytes
+-- the words that two and four bytes make, and the one that two words of four bytes make, the lowest first
 abbrev pub word16 : ℕ → ℕ → ℕ
 word16 a b = a + 256 * b
 
