@@ -1,11 +1,11 @@
 -- The table of masks that the code has, and the test of a body by its two words.
-use Prim.Native.Nat.{ℕ, zero, suc, _+_, _≤_, _<_}
+use Prim.Native.Nat.{ℕ, _+_, _≤_, _<_}
 use native.Mathlib.Omega.{arith}
 use mathlib.Core.Path.{_≡_, refl, ap, ap₂, sym, _∙_}
 use mathlib.Core.List.{List, [], _∷_, _++_, map}
 use mathlib.Core.Bool.{_||_}
 use lib.Bits.{bitAnd}
-use lib.ListN.{length, getD, take, drop, length-drop, take-append-drop}
+use lib.ListN.{length, getD, take, drop, List·getD-map, length-drop, take-append-drop}
 use lib.Seq.{length-take-le, take-all}
 use Rattle.laws.specs.Alls.{all-anywhere, all-places}
 use Rattle.laws.specs.Parts.{all-take, all-drop}
@@ -43,17 +43,12 @@ rule : unused ∷ rows ≡ map masksIn usedBytes
 unfolding wordOf masksIn
 rule = refl
 
-row-mapped : {A B : Type 0} (f : A → B) (xs : List A) (i : ℕ) (d : A) → getD (map f xs) i (f d) ≡ f (getD xs i d)
-row-mapped f [] i d = refl
-row-mapped f (x ∷ xs) zero d = refl
-row-mapped f (x ∷ xs) (suc i) d = row-mapped f xs i d
-
 -- so it holds of every number, and past the table no byte is used
 table : (kind : ℕ) → getD (unused ∷ rows) kind unused ≡ masksOf kind
 unfolding marksOf
 table kind =
     let none : unused ≡ masksIn unmarked = unfold wordOf masksIn in refl in
-    ap₂ (λ (l : List Masks) (m : Masks). getD l kind m) rule none ∙ row-mapped masksIn usedBytes kind unmarked
+    ap₂ (λ (l : List Masks) (m : Masks). getD l kind m) rule none ∙ List·getD-map masksIn usedBytes kind unmarked
 
 -- what an arm for the number k returns, and what the last arm does
 pub arm : (k kind : ℕ) → kind ≡ k → getD (unused ∷ rows) k unused ≡ masksOf kind

@@ -1,7 +1,7 @@
 -- Laws of used and spare bytes, over any marks: no spare byte of masked bytes is set, and bytes of which none is set are masked already.
 -- And one law for a table of kinds, whatever their number.
-use Prim.Native.Nat.{ℕ, zero, suc, _+_, _≤_, _<_}
-use native.Mathlib.Nat.{zero-add, add-zero}
+use Prim.Native.Nat.{ℕ, zero, suc, _+_, _-_, _≤_, _<_}
+use native.Mathlib.Nat.{zero-add}
 use native.Mathlib.Omega.{arith}
 use mathlib.Core.Path.{_≡_, refl, ap, ap₂, sym, _∙_}
 use mathlib.Core.List.{List, _∷_, map}
@@ -9,11 +9,11 @@ use mathlib.Core.Bool.{Bool, true, false, not, _&&_}
 use lib.Dec.{eqb, leb}
 use lib.ListN.{length, getD}
 use lib.Seq.{take-all}
-use borrow.Author.Tests.{eqb-true, eqb-false, leb-true, not-false}
+use borrow.Author.Tests.{eqb-true, leb-true, not-false}
 use Rattle.laws.specs.Lists.{only, range}
-use Rattle.laws.specs.Asked.{Said, passed, failed, ask, and-left, and-right}
+use Rattle.laws.specs.Asked.{and-left, and-right}
 use Rattle.laws.specs.Places.{some-range}
-use Rattle.laws.specs.Ranges.{some-none}
+use Rattle.laws.specs.Ranges.{getD-mapped, some-none}
 use Rattle.laws.specs.Parts.{read-part}
 use Rattle.laws.specs.WordLaws.{nonzero}
 use Rattle.events.specs.Layout.{BODY, KINDS, used}
@@ -28,25 +28,10 @@ module _ {A : Type 0} where
       ap₂ (λ (x : A) (xs : List A). x ∷ xs) (h a (omega arith) (omega arith)) (same-on f g (suc a) n (λ k l r. h k (omega arith) (omega arith)))
 
   same-at : (f g : ℕ → A) (a n k : ℕ) → map f (range a n) ≡ map g (range a n) → a ≤ k → k < a + n → f k ≡ g k
-  same-at f g a zero k e l r = absurd (omega arith)
-  same-at f g a (suc n) k e l r =
-      let rest : map f (range (suc a) n) ≡ map g (range (suc a) n) = cc in
-      go (λ h. same-at f g (suc a) n k rest h (omega arith)) (ask (eqb k a))
-    where
-      here : f a ≡ g a
-      here = cc
-
-      go : (suc a ≤ k → f k ≡ g k) → Said (eqb k a) → f k ≡ g k
-      go later (passed p) = rw (eqb-true k a p) here
-      go later (failed p) = later (above (eqb-false k a p))
-        where
-          above : (k ≡ a → ⊥) → suc a ≤ k
-          above q = omega arith
-
-  getD-on : (f : ℕ → A) (a n j : ℕ) (d : A) → j < n → getD (map f (range a n)) j d ≡ f (a + j)
-  getD-on f a zero j d h = absurd (omega arith)
-  getD-on f a (suc n) zero d h = ap f (sym (add-zero a))
-  getD-on f a (suc n) (suc j) d h = getD-on f (suc a) n j d (omega arith) ∙ ap f (omega arith)
+  same-at f g a n k e l r =
+      let there : k ≡ a + (k - a) = omega arith in
+      let inside : k - a < n = omega arith in
+      ap f there ∙ sym (getD-mapped f a n (k - a) (f 0) inside) ∙ ap (λ (xs : List A). getD xs (k - a) (f 0)) e ∙ getD-mapped g a n (k - a) (f 0) inside ∙ ap g (sym there)
 
   -- two tables that say the same of the numbers 1, 2 and so on, up to the last kind, say the same of each kind
   pub of-kind : (f g : ℕ → A) → map f (range 1 KINDS) ≡ map g (range 1 KINDS) → (kind : ℕ) → isKind kind ≡ true → f kind ≡ g kind
@@ -70,7 +55,7 @@ length-masked marks bytes = refl
 masked-byte : (marks bytes : List ℕ) (j : ℕ) → j < BODY → getD (masked marks bytes) j 0 ≡ only (used marks j) (getD bytes j 0)
 unfolding masked
 masked-byte marks bytes j h =
-    getD-on (λ k. only (used marks k) (getD bytes k 0)) 0 BODY j 0 h
+    getD-mapped (λ k. only (used marks k) (getD bytes k 0)) 0 BODY j 0 h
     ∙ ap (λ (k : ℕ). only (used marks k) (getD bytes k 0)) (zero-add j)
 
 -- "Writing sets spare bytes to zero"

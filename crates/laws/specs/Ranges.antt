@@ -20,6 +20,12 @@ range-up-to a b h = ap (range a) (let e : b - a ≡ suc (b - suc a) = omega arit
 pub range-ended : (a b : ℕ) → b ≤ a → range a (b - a) ≡ []
 range-ended a b h = ap (range a) (let e : b - a ≡ 0 = omega arith in e)
 
+-- what f makes of the number at a place of a range
+pub getD-mapped : {A : Type 0} (f : ℕ → A) (a n k : ℕ) (d : A) → k < n → getD (map f (range a n)) k d ≡ f (a + k)
+getD-mapped f a zero k d h = absurd (omega arith)
+getD-mapped f a (suc n) zero d h = ap f (sym (add-zero a))
+getD-mapped f a (suc n) (suc k) d h = getD-mapped f (suc a) n k d (omega arith) ∙ ap f (omega arith)
+
 -- a sum over a range: with one number more, and over a longer range
 module _ (f : ℕ → ℕ) (a : ℕ) where
   pub sum-more : (k : ℕ) → sum f (range a (k + 1)) ≡ sum f (range a k) + f (a + k)

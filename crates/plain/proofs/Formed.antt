@@ -2,7 +2,7 @@
 use Prim.Native.Nat.{ℕ, zero, suc}
 use mathlib.Core.Path.{_≡_, refl, ap, sym, _∙_}
 use mathlib.Core.List.{List, [], _∷_, _++_, map, append-assoc, append-nil, map-append}
-use lib.ListN.{length, length-map, getD}
+use lib.ListN.{length, length-map, getD, List·getD-map}
 use Rattle.laws.specs.Lists.{number, All}
 use Rattle.laws.specs.Refusals.{accepted}
 use Rattle.plain.specs.declared.Opening.{Opening}
@@ -96,9 +96,7 @@ formed-new opening cs = formed-run (new opening) cs
 -- the same of each place
 fresh-at : (ps : List Position) (i : ℕ) → fresh (getD ps i noPosition) ≡ getD (map fresh ps) i noPosition
 unfolding fresh
-fresh-at [] i = refl
-fresh-at (p ∷ ps) zero = refl
-fresh-at (p ∷ ps) (suc i) = fresh-at ps i
+fresh-at ps i = sym (List·getD-map fresh ps i noPosition)
 
 pub formed-many : (opening : Opening) (cs : List Call) → length (run (new opening) cs .positions) ≡ length (formedBy opening (acceptedEvents (new opening) cs))
 formed-many opening cs = sym (length-map (run (new opening) cs .positions) fresh) ∙ ap length (formed-new opening cs)
