@@ -26,7 +26,6 @@ setIn (n ∷ named) [] = false
 setIn (n ∷ named) (b ∷ bytes) = n && nonzero b || setIn named bytes
 
 -- a word is not 0 where its lowest byte is not or those above it are not
-
 nonzero-above : (low high : ℕ) → nonzero (high * 256 + low) ≡ nonzero low || nonzero high
 nonzero-above low high = go (ask (eqb low 0)) (ask (eqb high 0))
   where
