@@ -1,9 +1,9 @@
 //! The desk's page: the positions that a file leaves on a new book, each on a line of 80 columns.
 
-use crate::book::{Book, Position, Side, SHEET_PLACES};
-use crate::events;
+use crate::book::{Position, Side};
 use crate::refusal::Refusal;
-use crate::register::{self, Security};
+use crate::register::Security;
+use crate::transcript;
 
 /// Writes the lines at the start of the page. One number answers: the bytes written, or the refusal.
 pub fn page(register: &[u8], file: &[u8], page: &mut [u8]) -> u64 {
@@ -22,13 +22,7 @@ fn write(register: &[u8], file: &[u8], page: &mut [u8]) -> Result<usize, Refusal
 
 /// The lines of all positions, once register and file have passed.
 fn lines(register: &[u8], file: &[u8]) -> Result<String, Refusal> {
-    let securities = register::read(register)?;
-    let events = events::read(file)?;
-    let mut book = Book::open(&securities);
-    for event in &events {
-        // A refused call changes nothing, so the file is played on.
-        let _ = book.call(event, SHEET_PLACES);
-    }
+    let (securities, book) = transcript::played(register, file)?;
     Ok(book.positions().iter().zip(1..).map(|(position, number)| line(number, position, &securities)).collect())
 }
 

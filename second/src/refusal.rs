@@ -1,5 +1,5 @@
-//! The refusals of document 01, 'Why a call is turned down', and of document 02, Slip 1, 'The desk's page', by their
-//! numbers there.
+//! The refusals of document 01, 'Why a call is turned down', and of document 02, Slip 1, 'The desk's page', and Slip 3,
+//! 'How old is a price', by their numbers there.
 
 #[derive(Clone, Copy, Debug, PartialEq, Eq)]
 pub enum Refusal {
@@ -34,6 +34,7 @@ pub enum Refusal {
     BusinessDay = 29,
     After2099 = 30,
     PageSize = 31,
+    OldPrice = 32,
 }
 
 /// A refusal of a register or an event file, with the number of the security or event that it meets, if it meets one.

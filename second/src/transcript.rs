@@ -1,6 +1,6 @@
-//! The player: a register and a file on its input, lines on its output.
+//! The player: a register and a file on its input, lines on its output. What is read of a book once a file is played.
 
-use crate::book::{Answer, Book, Piece, Position, Side, SHEET_PLACES};
+use crate::book::{Answer, Book, LatestPrice, Piece, Position, Side, SHEET_PLACES};
 use crate::events::{self, Event};
 use crate::refusal::{Located, Refusal};
 use crate::register::{self, Security};
@@ -47,6 +47,23 @@ fn last_of(mut book: Book, events: &[Event], sheet: usize) -> Option<Result<Answ
         let _ = book.call(event, SHEET_PLACES);
     }
     Some(book.call(last, sheet))
+}
+
+/// The latest price of a security once the file is played on a new book, if it ever had one.
+pub fn latest_price(register: &[u8], file: &[u8], security: u16) -> Result<Option<LatestPrice>, Refusal> {
+    played(register, file)?.1.latest_price(security)
+}
+
+/// The securities, and the book after the last event, once register and file have passed.
+pub fn played(register: &[u8], file: &[u8]) -> Result<(Vec<Security>, Book), Refusal> {
+    let securities = register::read(register)?;
+    let events = events::read(file)?;
+    let mut book = Book::open(&securities);
+    for event in &events {
+        // A refused call changes nothing, so the file is played on.
+        let _ = book.call(event, SHEET_PLACES);
+    }
+    Ok((securities, book))
 }
 
 /// The new book and the events, once register and file have passed.

@@ -27,42 +27,11 @@ fn main() -> ExitCode {
     let calendar = Calendar::of_the_century();
     let mut tests = Tests::default();
 
-    compare::charges::exhaustive(&mut tests);
-    compare::calendar::exhaustive(&mut tests, &calendar);
-    compare::register::exhaustive(&mut tests);
-    compare::events::exhaustive(&mut tests);
-    compare::player::exhaustive(&mut tests);
-    compare::sheets::exhaustive(&mut tests);
-    compare::lines::exhaustive(&mut tests);
-    compare::page::exhaustive(&mut tests);
-    compare::text::exhaustive(&mut tests);
-    compare::words::exhaustive(&mut tests);
-    compare::walk::exhaustive(&mut tests);
-    compare::csv::exhaustive(&mut tests);
-    compare::html::exhaustive(&mut tests);
-    // The checks of `./play` run the C programs that the checks of these build.
-    compare::c_programs::exhaustive(&mut tests);
-    compare::builds::exhaustive(&mut tests);
-    compare::play::exhaustive(&mut tests);
-    compare::play_page::exhaustive(&mut tests);
+    exhaustive(&mut tests, &calendar);
     for seed in [FIXED_SEED, seed] {
         println!("seed {seed}");
         let mut round = Round { tests: &mut tests, seed };
-        compare::charges::seeded(&mut round);
-        compare::calendar::seeded(&mut round, &calendar);
-        compare::register::seeded(&mut round);
-        compare::events::seeded(&mut round);
-        compare::player::seeded(&mut round);
-        compare::sheets::seeded(&mut round);
-        compare::lines::seeded(&mut round);
-        compare::page::seeded(&mut round);
-        compare::text::seeded(&mut round);
-        compare::words::seeded(&mut round);
-        compare::walk::seeded(&mut round);
-        compare::csv::seeded(&mut round);
-        compare::html::seeded(&mut round);
-        compare::play::seeded(&mut round);
-        compare::play_page::seeded(&mut round);
+        seeded(&mut round, &calendar);
     }
 
     println!("{} passed, {} failed", tests.passed, tests.failed);
@@ -71,6 +40,47 @@ fn main() -> ExitCode {
     } else {
         ExitCode::FAILURE
     }
+}
+
+fn exhaustive(tests: &mut Tests, calendar: &Calendar) {
+    compare::charges::exhaustive(tests);
+    compare::calendar::exhaustive(tests, calendar);
+    compare::register::exhaustive(tests);
+    compare::events::exhaustive(tests);
+    compare::player::exhaustive(tests);
+    compare::prices::exhaustive(tests);
+    compare::sheets::exhaustive(tests);
+    compare::lines::exhaustive(tests);
+    compare::page::exhaustive(tests);
+    compare::text::exhaustive(tests);
+    compare::words::exhaustive(tests);
+    compare::walk::exhaustive(tests);
+    compare::csv::exhaustive(tests);
+    compare::html::exhaustive(tests);
+    // The checks of `./play` run the C programs that the checks of these build.
+    compare::c_programs::exhaustive(tests);
+    compare::builds::exhaustive(tests);
+    compare::play::exhaustive(tests);
+    compare::play_page::exhaustive(tests);
+}
+
+fn seeded(round: &mut Round, calendar: &Calendar) {
+    compare::charges::seeded(round);
+    compare::calendar::seeded(round, calendar);
+    compare::register::seeded(round);
+    compare::events::seeded(round);
+    compare::player::seeded(round);
+    compare::prices::seeded(round);
+    compare::sheets::seeded(round);
+    compare::lines::seeded(round);
+    compare::page::seeded(round);
+    compare::text::seeded(round);
+    compare::words::seeded(round);
+    compare::walk::seeded(round);
+    compare::csv::seeded(round);
+    compare::html::seeded(round);
+    compare::play::seeded(round);
+    compare::play_page::seeded(round);
 }
 
 fn seed_of_this_run() -> u64 {

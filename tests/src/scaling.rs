@@ -7,6 +7,8 @@
 //! Trade i is in security i mod 32, and each trade makes a short and a long; the first half is made on day 1, the other
 //! on day 2. The first trade in each security is large: its long is the first in line and takes all that is discharged,
 //! so that a discharge is one piece on that long at every number of positions.
+//!
+//! Attempts and cash settlements go by a price of their day, so prices are given on the day of these.
 
 use crate::histories::registers::with_classes;
 use crate::random::Random;
@@ -170,15 +172,18 @@ fn in_place(mut book: Input, mut events: impl Iterator<Item = [Event; 2]>) -> Pa
 /// As many rounds of auctions as the file has room for, each with sixteen shorts of either trade day. The calls for a
 /// short are given for both inputs; the second's have so many events of the kind more. A first auction is in both.
 fn auctions(positions: usize, events: usize, calls: impl Fn(u16) -> [Vec<Call>; 2]) -> Pair {
-    let mut book = Input::new(2, positions, FIRST_AUCTION_DAY);
+    let mut book = Input::unpriced(2, positions, FIRST_AUCTION_DAY);
+    book.calls.extend(accepted([price(0)]));
     book.calls.extend(auction(short(0, positions), 1, 1));
     book.close(ROUND);
-    let rounds = book.room() / (2 * MOST_ATTEMPTS * calls(1)[1].len() + ROUND);
+    // For each short there is a price, too.
+    let rounds = book.room() / (2 * MOST_ATTEMPTS * (1 + calls(1)[1].len()) + ROUND);
     let mut inputs = [book.clone(), book];
     let first_day = first_day_trades(positions);
     for round in 0..rounds {
         for (trades, days) in [(0..first_day, 1), (first_day..positions / 2, ROUND - 1)] {
             let next = trades.cycle().skip(round * MOST_ATTEMPTS).take(MOST_ATTEMPTS);
+            inputs.iter_mut().for_each(|input| input.calls.extend(accepted(next.clone().map(price))));
             for short in next.map(|trade| short(trade, positions)) {
                 for (input, calls) in inputs.iter_mut().zip(calls(short)) {
                     input.calls.extend(calls);
@@ -249,11 +254,17 @@ pub struct Input {
 }
 
 impl Input {
+    /// As `unpriced`, with a price of the last day for each security.
+    fn new(class: u8, positions: usize, day: usize) -> Input {
+        let mut input = Input::unpriced(class, positions, day);
+        input.calls.extend(accepted((0..SECURITIES).map(price)));
+        input
+    }
+
     /// A book of so many positions and securities of one class, on a day after the second. The shorts of the second
     /// trade day are at r = day - 4.
-    fn new(class: u8, positions: usize, day: usize) -> Input {
+    fn unpriced(class: u8, positions: usize, day: usize) -> Input {
         let mut input = Input { register: register_of(class), calls: Vec::new(), positions };
-        input.calls.extend(accepted((0..SECURITIES).map(price)));
         let first_day = first_day_trades(positions);
         input.calls.extend(accepted((0..first_day).map(trade)));
         input.close(1);

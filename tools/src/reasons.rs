@@ -51,6 +51,7 @@ pub fn reason(book: &Book, event: &Event, refusal: Refusal) -> String {
         Refusal::Window => window(book, event, named.short),
         Refusal::Auction => auction(book, event, named.short),
         Refusal::NoPrice => format!("security {} never had a price", security_of(book, named.short)),
+        Refusal::OldPrice => old_price(book, named.short),
         Refusal::Attempts => attempts(book, named.short),
         Refusal::Failing => {
             let security = security_of(book, named.short);
@@ -155,6 +156,13 @@ fn auction(book: &Book, event: &Event, short: u16) -> String {
             format!("the auction runs on position {} and not on position {}", grouped(other as u64), grouped(short))
         }
     }
+}
+
+fn old_price(book: &Book, short: u16) -> String {
+    let security = security_of(book, short);
+    let given = book.securities[security - 1].latest_price.map_or(0, |latest| latest.day);
+    let [given, today] = [given, book.day].map(grouped);
+    format!("the latest price of security {security} is of day {given}, and today is day {today}")
 }
 
 /// A second attempt on a short is one also where sixteen were opened, and is the nearer reason.

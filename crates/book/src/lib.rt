@@ -10,7 +10,7 @@ ghost use Rattle.plain.specs.Calls.{call, isDischarge};
 ghost use Rattle.plain.specs.Sound.{Places};
 ghost use Rattle.tables.specs.Lent.{pieceTable};
 ghost use Rattle.calls.specs.View.{numbers, bookOf, Held};
-ghost use Rattle.calls.specs.Reading.{positionAnswer, awardAnswer, balanceAnswer};
+ghost use Rattle.calls.specs.Reading.{positionAnswer, awardAnswer, priceAnswer, balanceAnswer};
 ghost use Rattle.calls.specs.Stepping.{mannerOf};
 ghost use Rattle.book.specs.View.{withCore, view, Valid, Returned};
 ghost use Rattle.book.specs.Opening.{OpenedOn};
@@ -19,6 +19,7 @@ use calls::AwardAnswer;
 use calls::BalanceAnswer;
 use calls::Core;
 use calls::PositionAnswer;
+use calls::PriceAnswer;
 use events::Attempt;
 use events::Cash;
 use events::Confirm;
@@ -132,6 +133,14 @@ pub fn award_at(book: Book, number: u16) -> AwardAnswer
 {
     let awards = book.awards;
     calls::award_at(book.core, &awards, number)
+}
+
+// The latest price of a security, of any age, and the day on which it was given.
+pub fn latest_price(book: Book, security: u16) -> PriceAnswer
+    requires { ⌜ Valid book ⌝ }
+    ensures { λ r. ⌜ r ≡ priceAnswer (view book) security ⌝ }
+{
+    calls::latest_price(book.core, security)
 }
 
 pub fn balance(book: Book, account: u8) -> BalanceAnswer

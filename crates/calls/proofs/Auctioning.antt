@@ -16,9 +16,10 @@ use Rattle.events.specs.declared.Offer.{Offer}
 use Rattle.events.specs.declared.Attempt.{Attempt}
 use Rattle.events.specs.declared.Event.{Event}
 use Rattle.events.specs.declared.Event.the-variants as event
+use Rattle.plain.specs.declared.LatestPrice.{LatestPrice}
 use Rattle.plain.specs.declared.Position.{Position}
 use Rattle.plain.specs.declared.Outcome.the-variants as outcome
-use Rattle.plain.specs.Book.{nth, noPosition, noPrice, positionOf}
+use Rattle.plain.specs.Book.{nth, noPosition, noPrice, positionOf, lookedUp, priceIn}
 use Rattle.plain.specs.Auction.{failing}
 use Rattle.plain.specs.Calls.{call, handsOut}
 use Rattle.plain.specs.Refusals.{refusal, attemptReasons, offerReasons, auctionReasons, awardReasons}
@@ -91,20 +92,20 @@ module _ (b : Core) (a : Numbers) (h : Held b a) (t : Attempt) where
     pub registered-at : (1 ≤ p .security) × (p .security ≤ 32)
     registered-at = security-at (keptOf b a) (h .valid) (t .position) in-use p position-read
 
-    module _ (class : ℕ) (classed : class ≡ nth 0 (b .opening .register .classes) (p .security)) (latest : ℕ) (priced : latest ≡ nth noPrice (b .prices .latest) (p .security) .price)
+    module _ (class : ℕ) (classed : class ≡ nth 0 (b .opening .register .classes) (p .security)) (latest : LatestPrice) (looked : latest ≡ lookedUp (nth noPrice (table.prices (b .prices)) (p .security)))
         (today : Step) (on : today ≡ stepOn class (b .day .0 - p .settlement .0)) (marked : Bool) (m : marked ≡ some (λ k. eqb k (t .position)) (table.marks (b .marks)))
-        (number : ℕ) (e : number ≡ first (attemptReasons p today (b .auction .position) latest (b .marks .count) marked)) where
+        (number : ℕ) (e : number ≡ first (attemptReasons p (b .day .0) today (b .auction .position) latest (b .marks .count) marked)) where
       attempt-is : refusal (bookOf b a) (call (event.Attempt t) 0) ≡ number
-      attempt-is = sym (attempt-number (keptOf b a) t (h .valid) in-use p position-read latest priced class classed today marked on m) ∙ sym e
+      attempt-is = sym (attempt-number (keptOf b a) t (h .valid) in-use p position-read latest looked class classed today marked on m) ∙ sym e
 
       pub attempt-refused : number ≢ 0 → CalledBare b a (call (event.Attempt t) 0) b a (outcome.Refused number) 0
       attempt-refused some = refused b a (call (event.Attempt t) 0) number h attempt-is some
 
-      pub attempt-taken : number ≡ 0 → (top : ℕ) → top ≡ ceiling class latest → CalledBare b a (call (event.Attempt t) 0) (attemptedCore b (t .position) top) a (outcome.Done 0) 0
+      pub attempt-taken : number ≡ 0 → (price : ℕ) → price ≡ priceIn latest → (top : ℕ) → top ≡ ceiling class price → CalledBare b a (call (event.Attempt t) 0) (attemptedCore b (t .position) top) a (outcome.Done 0) 0
       unfolding handsOut view
-      attempt-taken z top is =
+      attempt-taken z price told top is =
           done-called b a (event.Attempt t) (attemptedCore b (t .position) top) 0 h (attempt-is ∙ z) refl
-          (attempt-done (keptOf b a) t (h .valid .fits) (mark-room p today (b .auction .position) latest (b .marks .count) marked (sym e ∙ z)) top (ceiling-is (keptOf b a) t (h .valid) in-use p position-read latest priced class classed top is))
+          (attempt-done (keptOf b a) t (h .valid .fits) (mark-room p (b .day .0) today (b .auction .position) latest (b .marks .count) marked (sym e ∙ z)) top (ceiling-is (keptOf b a) t (h .valid) in-use p position-read latest looked class classed price top told is))
           (record { rows = h .lent .rows; trades = h .lent .trades; awards = h .lent .awards; follows = h .lent .follows })
 
 module _ (b : Core) (a : Numbers) (h : Held b a) (w : Award) (number : ℕ) (is : number ≡ first (awardReasons (b .positions) (b .auction .position) (w .position))) where

@@ -39,7 +39,7 @@ started-new starts items e =
 -- what each part of a new core ensures
 pub record New (b : Core) : Type 0 where
   pub day : b .day .0 ≡ firstDay (b .opening)
-  pub prices : b .prices .latest ≡ replicate 32 noPrice
+  pub prices : table.prices (b .prices) ≡ replicate 32 noPrice
   pub auction : (b .auction .position ≡ 0) × (b .auction .ceiling ≡ 0) × (b .auction .count ≡ 0) × (length (b .auction .offers) ≡ 16)
   pub marks : (b .marks .count ≡ 0) × (length (b .marks .items) ≡ 16)
   pub ledger : (b .ledger .credits ≡ replicate 64 0) × (b .ledger .debits ≡ replicate 64 0)

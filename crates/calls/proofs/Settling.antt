@@ -12,12 +12,13 @@ use Rattle.rules.specs.Windows.{stepOn}
 use Rattle.rules.specs.declared.Step.{Step}
 use Rattle.events.specs.declared.Cash.{Cash}
 use Rattle.events.specs.declared.Event.the-variants as event
+use Rattle.plain.specs.declared.LatestPrice.{LatestPrice}
 use Rattle.plain.specs.declared.Position.{Position}
 use Rattle.plain.specs.declared.Piece.{Piece}
 use Rattle.plain.specs.declared.Ledger.{Ledger}
 use Rattle.plain.specs.declared.Manner.the-variants as manner
 use Rattle.plain.specs.declared.Outcome.the-variants as outcome
-use Rattle.plain.specs.Book.{noPosition, nth}
+use Rattle.plain.specs.Book.{noPosition, noPrice, nth, lookedUp}
 use Rattle.plain.specs.Dealing.{lowered, lowering}
 use Rattle.plain.specs.Charging.{Charge, payment, posted, pricedBy, cashChargesBy, feeOf}
 use Rattle.plain.specs.Calls.{call, dealt}
@@ -35,7 +36,7 @@ use Rattle.laws.specs.Refusals.{first}
 use Rattle.ledger.specs.Tabled.{Accounted, Priced}
 use Rattle.ledger.proofs.Elements.{position-numbered}
 use Rattle.positions.specs.Dealing.{dealtOut}
-use Rattle.tables.specs.Lent.{positionTable, pieceTable}
+use Rattle.tables.specs.Lent.{positionTable, pieceTable, rowOf}
 use Rattle.ledger.specs.Settling.{paymentBy, paymentsBy, Owed, Settleable}
 use Rattle.kept.specs.View.{view, Valid}
 use Rattle.kept.specs.Discharging.{Terms, Dischargeable}
@@ -99,11 +100,12 @@ module _ (b : Core) (a : Numbers) (h : Held b a) (c : Cash) where
   cash-missing number sheet e some long =
       refused-on b a (call (event.Cash c) 1024) manner.Cash sheet number h (missing-number 1024 _ _ _ _ (cash-split (keptOf b a) (h .valid) c 1024) number e some) some long
 
-  module _ (p : Position) (class latest : ℕ) (today : Step) (number : ℕ) (there : first (lookupReasons 1024 (b .positions) (c .position)) ≡ 0) (terms : CashTerms b (a .rows) (c .position) p class latest)
-      (step : today ≡ stepOn class (b .day .0 - p .settlement .0)) (is : number ≡ first (cashReasons p today latest)) where
+  module _ (p : Position) (class : ℕ) (latest : LatestPrice) (today : Step) (number : ℕ) (there : first (lookupReasons 1024 (b .positions) (c .position)) ≡ 0) (own : p ≡ rowOf (a .rows) (c .position))
+      (classed : class ≡ nth 0 (b .opening .register .classes) (p .security)) (looked : latest ≡ lookedUp (nth noPrice (table.prices (b .prices)) (p .security)))
+      (step : today ≡ stepOn class (b .day .0 - p .settlement .0)) (is : number ≡ first (cashReasons p (b .day .0) today latest)) where
     number-is : refusal (bookOf b a) (call (event.Cash c) 1024) ≡ number
     number-is =
-        cash-number (keptOf b a) (h .valid) c 1024 p class latest today number there (terms .own ∙ row-is b a h (c .position) (lookup-there 1024 (b .positions) (c .position) there)) (terms .classed) (terms .priced) step is
+        cash-number (keptOf b a) (h .valid) c 1024 p class latest today number there (own ∙ row-is b a h (c .position) (lookup-there 1024 (b .positions) (c .position) there)) classed looked step is
 
     pub cash-refused : (sheet : List ℕ) → number ≢ 0 → length sheet ≡ 4096 → CalledOn b a (call (event.Cash c) 1024) manner.Cash sheet b a sheet (outcome.Refused number) 0
     cash-refused sheet some long = refused-on b a (call (event.Cash c) 1024) manner.Cash sheet number h number-is some long

@@ -56,9 +56,11 @@ withAwards b x =
 abbrev pub tradedCore : Core → Core
 tradedCore b = withTrades b (b .trades + 1)
 
--- a security's latest price
+-- a security's latest price, given today
 abbrev pub pricedCore : Core → Price → Core
-pricedCore b p = withPrices b (record { latest = set (b .prices .latest) (p .security - 1) (record { price = p .price }) })
+pricedCore b p =
+    withPrices b
+    (record { latest = set (b .prices .latest) (p .security - 1) (p .price); days = set (b .prices .days) (p .security - 1) (b .day) })
 
 -- one more mark, and an auction without offers
 abbrev pub attemptedCore : Core → ℕ → ℕ → Core

@@ -4,12 +4,15 @@ use mathlib.Core.Bool.{cond}
 use lib.Dec.{ltb}
 use lib.IntN.{ℤ, pos, negsuc}
 use Rattle.laws.specs.Limits.{MEMBERS}
+use Rattle.laws.specs.Asked.{within}
 use Rattle.plain.specs.Book as plain
 use Rattle.plain.specs.Histories as histories
 use Rattle.calls.specs.declared.PositionAnswer.{PositionAnswer}
 use Rattle.calls.specs.declared.PositionAnswer.the-variants as position
 use Rattle.calls.specs.declared.AwardAnswer.{AwardAnswer}
 use Rattle.calls.specs.declared.AwardAnswer.the-variants as award
+use Rattle.calls.specs.declared.PriceAnswer.{PriceAnswer}
+use Rattle.calls.specs.declared.PriceAnswer.the-variants as price
 use Rattle.calls.specs.declared.BalanceAnswer.{BalanceAnswer}
 use Rattle.calls.specs.declared.BalanceAnswer.the-variants as balance
 
@@ -19,6 +22,11 @@ positionAnswer b n = cond (plain.there (b .positions) n) (position.Found (plain.
 
 abbrev pub awardAnswer : plain.Book → ℕ → AwardAnswer
 awardAnswer b n = cond (plain.there (b .awards) n) (award.Found (plain.awardOf b n)) (award.Refused 11)
+
+-- "The lookup of the latest price shall also tell the day it was given" (document 02, Slip 3); 10. "The security is not registered."
+abbrev pub priceAnswer : plain.Book → ℕ → PriceAnswer
+priceAnswer b security =
+    cond (within 1 (b .opening .register .count) security) (price.Found (plain.latestPrice b security)) (price.Refused 10)
 
 -- "a credit is positive": a balance by its sign. A balance of 0 is a credit
 abbrev pub signed : ℤ → BalanceAnswer

@@ -137,7 +137,7 @@ pub record Taken (b : Core) (a : Numbers) (c : Call) : Type 0 where
 pub record CashTerms (b : Core) (rows : List ℕ) (n : ℕ) (p : Position) (class latest : ℕ) : Type 0 where
   pub own : p ≡ rowOf rows n
   pub classed : class ≡ plain.nth 0 (b .opening .register .classes) (p .security)
-  pub priced : latest ≡ plain.nth plain.noPrice (b .prices .latest) (p .security) .price
+  pub priced : latest ≡ plain.nth plain.noPrice (table.prices (b .prices)) (p .security) .price
 
 -- the numbers that are lent with a new book: no short is late, and the tables have their places
 pub record Blank (a : Numbers) : Type 0 where

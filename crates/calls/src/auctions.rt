@@ -13,6 +13,7 @@ use crate::Core;
 use crate::class_of;
 use crate::done;
 use crate::latest_of;
+use crate::price_of;
 use crate::refused;
 use events::Attempt;
 use events::Offer;
@@ -52,6 +53,7 @@ pub fn attempt(core: Core, rows: &[u32; 10240], a: Attempt) -> Answered
     let marked = auction::is_marked(core.marks, a.position);
     let number = refusals::attempt_refusal(
         p,
+        core.day,
         today,
         core.auction.position,
         latest,
@@ -61,7 +63,7 @@ pub fn attempt(core: Core, rows: &[u32; 10240], a: Attempt) -> Answered
     if number != 0 {
         return refused(core, number);
     }
-    let ceiling = rules::ceiling_of(class, latest);
+    let ceiling = rules::ceiling_of(class, price_of(latest));
     let after = open_auction(core, a.position, ceiling);
     done(after, 0, 0)
 }

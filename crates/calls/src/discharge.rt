@@ -18,6 +18,7 @@ use crate::Followed;
 use crate::class_of;
 use crate::done;
 use crate::latest_of;
+use crate::price_of;
 use crate::refused;
 use events::Cash;
 use events::Confirm;
@@ -238,9 +239,10 @@ pub fn cash(
     let class = class_of(core.opening, p.security);
     let latest = latest_of(core.prices, p.security);
     let today = refusals::step_today(class, core.day, p);
-    let number = refusals::cash_refusal(p, today, latest);
+    let number = refusals::cash_refusal(p, core.day, today, latest);
     if number != 0 {
         return refused(core, number);
     }
-    settle(core, rows, counts, sheet, c, p, class, latest)
+    let price = price_of(latest);
+    settle(core, rows, counts, sheet, c, p, class, price)
 }

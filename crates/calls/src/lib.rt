@@ -26,6 +26,7 @@ pub use reading::award_at;
 pub use reading::balance;
 pub use reading::day;
 pub use reading::isins;
+pub use reading::latest_price;
 pub use reading::position;
 pub use reading::position_count;
 pub use trading::price;
@@ -34,9 +35,11 @@ ghost use Prim.Native.Nat.{_≤_};
 ghost use mathlib.Core.Path.{_≡_};
 ghost use lib.ListN.{length};
 ghost use Rattle.laws.specs.Limits.{SECURITIES};
+ghost use Rattle.laws.specs.Asked.{Within};
 ghost use Rattle.register.specs.Accepted.{Registered};
 ghost use Rattle.plain.specs.declared.Outcome.the-variants as outcome;
-ghost use Rattle.plain.specs.Book.{nth, noPrice};
+ghost use Rattle.plain.specs.Book.{nth, noPrice, lookedUp, priceIn};
+ghost use Rattle.tables.specs.Tables as table;
 ghost use Rattle.calls.specs.Stepping.{Stepped};
 ghost use Rattle.calls.specs.View.{numbers, Held};
 use events::Event;
@@ -44,6 +47,8 @@ use failing::Words;
 use laws::BusinessDay;
 use laws::SECURITIES;
 use plain::Award;
+use plain::Latest;
+use plain::LatestPrice;
 use plain::Ledger;
 use plain::Opening;
 use plain::Outcome;
@@ -99,6 +104,11 @@ pub enum AwardAnswer {
     Refused(u8),
 }
 
+pub enum PriceAnswer {
+    Found(LatestPrice),
+    Refused(u8),
+}
+
 // A balance in cents, by its sign.
 pub enum BalanceAnswer {
     Credit(u64),
@@ -137,13 +147,29 @@ fn class_of(opening: Opening, security: u16) -> u8
     register.classes[s - 1]
 }
 
-fn latest_of(prices: Prices, security: u16) -> u32
-    requires { ⌜ (length (prices .latest) ≡ SECURITIES) × (1 ≤ security) × (security ≤ SECURITIES) ⌝ }
-    ensures { λ r. ⌜ r ≡ nth noPrice (prices .latest) security .price ⌝ }
+// The latest price of a security, of any age.
+fn latest_of(prices: Prices, security: u16) -> LatestPrice
+    requires { ⌜ (length (table.prices prices) ≡ SECURITIES) × (Within 1 SECURITIES security) ⌝ }
+    ensures { λ r. ⌜ r ≡ lookedUp (nth noPrice (table.prices prices) security) ⌝ }
 {
-    let s = security as usize;
-    let latest = prices.latest[s - 1];
-    latest.price
+    let k = (security - 1) as usize;
+    let price = prices.latest[k];
+    if price == 0 {
+        return LatestPrice::Never;
+    }
+    let day = prices.days[k];
+    let latest = Latest { price, day };
+    LatestPrice::Given(latest)
+}
+
+// The price that a lookup told, 0 where none was given.
+fn price_of(latest: LatestPrice) -> u32
+    ensures { λ r. ⌜ r ≡ priceIn latest ⌝ }
+{
+    match latest {
+        LatestPrice::Never => 0,
+        LatestPrice::Given(given) => given.price,
+    }
 }
 
 // One event, by the call of its kind, on all tables and a sheet.

@@ -4,6 +4,7 @@ ghost use lib.ListN.{length, replicate};
 ghost use Rattle.laws.specs.Limits.{ACCOUNTS, ATTEMPTS, OFFERS, SECURITIES};
 ghost use Rattle.register.specs.Accepted.{Registered};
 ghost use Rattle.plain.specs.Book.{noPrice, new};
+ghost use Rattle.tables.specs.Tables.{prices};
 ghost use Rattle.calls.specs.Opening.{OpenedOn};
 ghost use Rattle.calls.specs.View.{Numbers, bookOf, Held, Blank};
 use crate::Core;
@@ -16,7 +17,6 @@ use laws::ATTEMPTS;
 use laws::BusinessDay;
 use laws::OFFERS;
 use laws::SECURITIES;
-use plain::Latest;
 use plain::Ledger;
 use plain::Opening;
 use tables::Auction;
@@ -25,11 +25,12 @@ use tables::Prices;
 
 // The parts of a new book.
 fn no_prices() -> Prices
-    ensures { λ r. ⌜ r .latest ≡ replicate SECURITIES noPrice ⌝ }
+    ensures { λ r. ⌜ prices r ≡ replicate SECURITIES noPrice ⌝ }
 {
-    let none = Latest { price: 0 };
-    let latest = [none; SECURITIES];
-    Prices { latest }
+    let none = BusinessDay(0);
+    let latest = [0u32; SECURITIES];
+    let days = [none; SECURITIES];
+    Prices { latest, days }
 }
 
 fn no_auction() -> Auction

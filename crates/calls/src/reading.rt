@@ -2,16 +2,19 @@
 ghost use Prim.Native.Nat.{ℕ};
 ghost use mathlib.Core.Path.{_≡_};
 ghost use mathlib.Core.List.{List};
-ghost use Rattle.calls.specs.Reading.{positionAnswer, awardAnswer, balanceAnswer};
+ghost use Rattle.calls.specs.Reading.{positionAnswer, awardAnswer, priceAnswer, balanceAnswer};
 ghost use Rattle.calls.specs.View.{Numbers, numbers, bookOf, Held};
 use crate::AwardAnswer;
 use crate::BalanceAnswer;
 use crate::Core;
 use crate::PositionAnswer;
+use crate::PriceAnswer;
+use crate::latest_of;
 use laws::BusinessDay;
 use laws::MEMBERS;
 use plain::Ledger;
 use refusals::NO_MEMBER;
+use refusals::NOT_REGISTERED;
 use refusals::NOT_THERE;
 
 pub fn day(core: Core) -> BusinessDay
@@ -64,6 +67,18 @@ pub fn award_at(core: Core, awards: &[u32; 1280], number: u16) -> AwardAnswer
     }
     let found = rows::award_at(awards, n - 1);
     AwardAnswer::Found(found)
+}
+
+// The latest price of a security, of any age, and the day on which it was given.
+pub fn latest_price(core: Core, security: u16) -> PriceAnswer
+    requires { ⌜ ((a : Numbers) × Held core a) ⌝ }
+    ensures { λ r. ⌜ ((a : Numbers) → r ≡ priceAnswer (bookOf core a) security) ⌝ }
+{
+    if !refusals::is_within(1, core.opening.register.count as usize, security as usize) {
+        return PriceAnswer::Refused(NOT_REGISTERED);
+    }
+    let latest = latest_of(core.prices, security);
+    PriceAnswer::Found(latest)
 }
 
 pub fn balance(core: Core, account: u8) -> BalanceAnswer

@@ -12,7 +12,6 @@ use crate::done;
 use crate::refused;
 use events::Price;
 use events::Trade;
-use plain::Latest;
 
 pub fn trade(core: Core, trades: &mut [u32; 2560], t: Trade) -> Answered
     requires { ⌜ length (now trades) ≡ 2560 ⌝ }
@@ -38,8 +37,10 @@ pub fn price(core: Core, p: Price) -> Answered
         return refused(core, number);
     }
     let k = (p.security - 1) as usize;
+    let day = core.day;
     let mut prices = core.prices;
-    prices.latest[k] = Latest { price: p.price };
+    prices.latest[k] = p.price;
+    prices.days[k] = day;
     let mut after = core;
     after.prices = prices;
     done(after, 0, 0)

@@ -1,25 +1,31 @@
 -- The claim about histories: after every list of the calls from any opened book, refused ones included, in place or by value, with sheets of
 -- any length.
-use Prim.Native.Nat.{ℕ, suc, _-_, _<_}
+use Prim.Native.Nat.{ℕ, suc, _-_, _≤_, _<_}
 use native.Mathlib.Omega.{arith}
 use mathlib.Core.Path.{_≡_, refl, ap, sym, _∙_, subst}
 use mathlib.Core.Logic.{_≢_}
+use mathlib.Core.Bool.{cond}
 use mathlib.Core.List.{List, _∷_, _++_, map}
 use lib.Seq.{take-length, length-take-le}
 use lib.ListN.{length}
 use borrow.Author.Tests.{le-ltb}
-use Rattle.laws.specs.Asked.{Said, passed, failed, ask, Within, both-bounds}
+use Rattle.laws.specs.Limits.{SECURITIES}
+use Rattle.laws.specs.Asked.{Said, passed, failed, ask, Within, within, both-bounds}
+use Rattle.register.specs.Accepted.{read-registered}
 use Rattle.plain.specs.declared.Opening.{Opening}
+use Rattle.plain.specs.declared.LatestPrice.{LatestPrice}
 use Rattle.plain.specs.declared.Position.{Position}
 use Rattle.plain.specs.declared.Piece.{Piece}
 use Rattle.plain.specs.Book as plain
-use Rattle.plain.specs.Book.{openingRead, new, noPosition, positionOf}
+use Rattle.plain.specs.Book.{openingRead, new, noPosition, positionOf, latestPrice}
 use Rattle.plain.specs.Calls.{Call}
 use Rattle.plain.specs.Refusals.{refusal}
-use Rattle.plain.specs.Histories.{next, pieces, quantity, along, run, handed, acceptedEvents, formedBy, balance}
+use Rattle.plain.specs.Histories.{next, pieces, quantity, along, run, handed, acceptedEvents, formedBy, latestBy, balance}
 use Rattle.plain.specs.Sound.{Sound}
 use Rattle.plain.proofs.Numbered.{nth-at}
 use Rattle.plain.proofs.Accepted.{next-keeps}
+use Rattle.plain.proofs.Kept.{run-opening}
+use Rattle.plain.proofs.Prices.{given-today}
 use Rattle.plain.proofs.Sound.{done-sound, new-sound}
 use Rattle.plain.proofs.Discharges as discharges
 use Rattle.plain.proofs.Discharges.{discharge}
@@ -30,11 +36,12 @@ use Rattle.kept.specs.View.{answer, numberOf, quantityOf}
 use Rattle.calls.specs.View.{Called}
 use Rattle.calls.specs.Answers.{answered-number, answered-quantity}
 use Rattle.calls.specs.declared.PositionAnswer.the-variants.{Found, Refused}
-use Rattle.calls.specs.Reading.{positionAnswer, signed}
+use Rattle.calls.specs.declared.PriceAnswer.the-variants as price
+use Rattle.calls.specs.Reading.{positionAnswer, priceAnswer, signed}
 use Rattle.book.specs.View as whole
 use Rattle.book.proofs.Returns as book
 use Rattle.history.specs.Runs.{Stand, view, Return, piecesOn, Answers, bare, onNumbers, byValue, lent, Runs, stop, step, last, sheets, RunsTo, Begins, inPlace, asOneValue}
-use Rattle.history.specs.Claim.{Each, none, one, DealtOut, Kept, Filled, History}
+use Rattle.history.specs.Claim.{Each, none, one, DealtOut, Fresh, Kept, Filled, History}
 
 -- What one call returned, with its pieces as the sheet has them: the same, however it was made
 
@@ -91,6 +98,9 @@ dealt-out s c r h k e kind =
     let given = called k .returned .pieces in
     record { total = rw (given, reported k) (d .total); shorts = rw given (d .shorts); longs = rw given (d .longs) }
 
+fresh : (s : Stand) (c : Call) (r : Return) → Sound (view s) → Answers s c r → Fresh s c r
+fresh s c r h k n e needs = given-today (view s) c n (h .standing .prices) (sym (number k) ∙ e) needs
+
 same-stand : (s z : Stand) → (z .core ≡ s .core) × (z .numbers ≡ s .numbers) → z ≡ s
 same-stand s z e i = record { core = e .0 i; numbers = e .1 i }
 
@@ -132,16 +142,38 @@ read-found b n p e = go (ask (plain.there (b .positions) n))
         let z : _≡_ {A = ℕ} 0 1 = cc in
         absurd (omega arith)
 
+-- the latest price of a security that is registered, and refusal 10 of any other
+read-latest : (b : plain.Book) (opening : Opening) (given : ℕ → LatestPrice) → b .opening ≡ opening → opening .register .count ≤ SECURITIES
+    → ((security : ℕ) → Within 1 SECURITIES security → latestPrice b security ≡ given security) → (security : ℕ)
+    → priceAnswer b security ≡ cond (within 1 (opening .register .count) security) (price.Found (given security)) (price.Refused 10)
+read-latest b opening given same few is security = rw same (go (ask (within 1 (opening .register .count) security)))
+  where
+    go : Said (within 1 (opening .register .count) security)
+        → cond (within 1 (opening .register .count) security) (price.Found (latestPrice b security)) (price.Refused 10)
+        ≡ cond (within 1 (opening .register .count) security) (price.Found (given security)) (price.Refused 10)
+    go (passed t) =
+        let w = both-bounds 1 (opening .register .count) security t in
+        rw (t, is security (record { above = w .above; below = omega (arith, w .below, few) }))
+    go (failed t) = rw t
+
 -- The claim
 
--- what every history begins with: the new plain book of what the register's bytes open a book with
+-- what every history begins with: the new plain book of what the register's bytes open a book with, on a register that passes
 begun : {bytes : List ℕ} {s : Stand} → Begins bytes s → view s ≡ new (openingRead bytes)
 unfolding whole.view
 begun (inPlace {a = a} o z blank) = o .book a blank
 begun (asOneValue o z) = o .book
 
-claim : (opening : Opening) {s : Stand} {cs : List Call} {rs : List Return} → view s ≡ new opening → Runs s cs rs → History opening s cs rs
-claim opening {s} {cs} {rs} e runs =
+few-registered : {bytes : List ℕ} {s : Stand} → Begins bytes s → openingRead bytes .register .count ≤ SECURITIES
+few-registered {bytes} (inPlace o z blank) = read-registered bytes (sym (o .number) ∙ z) .high
+few-registered {bytes} (asOneValue o z) = read-registered bytes (sym (o .number) ∙ z) .high
+
+opened : (opening : Opening) (cs : List Call) → run (new opening) cs .opening ≡ opening
+unfolding new
+opened opening cs = run-opening (new opening) cs
+
+claim : (opening : Opening) {s : Stand} {cs : List Call} {rs : List Return} → view s ≡ new opening → opening .register .count ≤ SECURITIES → Runs s cs rs → History opening s cs rs
+claim opening {s} {cs} {rs} e few runs =
     let same : view (last s rs) ≡ run (new opening) cs = agrees runs ∙ ap (λ (p : plain.Book). run p cs) e in
     let given : sheets rs ≡ handed (new opening) cs = same-sheets runs ∙ ap (λ (p : plain.Book). handed p cs) e in
     let claim = told.claim opening cs in
@@ -159,6 +191,8 @@ claim opening {s} {cs} {rs} e runs =
           rw (given, ← f .1, same, nth-at noPosition (formedBy opening (acceptedEvents (new opening) cs)) n (f .0 .above), nth-at noPosition (run (new opening) cs .positions) n (f .0 .above))
           (rw place at (sym (claim .netted (n - 1)) ∙ claim .tallied (n - 1) here));
       positions = rw same (claim .positions);
+      latest-prices = rw same (read-latest (run (new opening) cs) opening (latestBy opening (acceptedEvents (new opening) cs)) (opened opening cs) few (claim .prices));
+      fresh = every fresh sound runs;
       dealt = all-same piecesOn pieces (λ s c r k. called k .returned .pieces) (new opening) e runs;
       discharges = every dealt-out sound runs;
       accounts = rw same (claim .accounts');
@@ -171,7 +205,7 @@ claim opening {s} {cs} {rs} e runs =
 
 -- the claim about histories, from what opening was given and answered
 pub history : {bytes : List ℕ} {s : Stand} {cs : List Call} {rs : List Return} → Begins bytes s → Runs s cs rs → History (openingRead bytes) s cs rs
-history {bytes} b runs = claim (openingRead bytes) (begun b) runs
+history {bytes} b runs = claim (openingRead bytes) (begun b) (few-registered b) runs
 
 -- and so of what was played: `replay` and the player ensure `RunsTo` of the calls of a file
 pub played : {bytes : List ℕ} {s z : Stand} {cs : List Call} → Begins bytes s → (r : RunsTo s cs z) → History (openingRead bytes) s cs (r .returns)

@@ -4,10 +4,11 @@ use Prim.Native.Nat.{ℕ, suc, _+_, _<_}
 use mathlib.Core.Path.{_≡_}
 use mathlib.Core.Logic.{_≢_}
 use mathlib.Core.List.{List, [], _∷_, _++_, map}
-use mathlib.Core.Bool.{true}
+use mathlib.Core.Bool.{true, cond}
 use lib.ListN.{length, getD, take, drop}
 use lib.IntN.{pos, subℕ}
 use Rattle.laws.specs.Limits.{ACCOUNTS}
+use Rattle.laws.specs.Asked.{within}
 use Rattle.laws.specs.Lists.{All, range, sum}
 use Rattle.laws.specs.Integers.{sumℤ}
 use Rattle.plain.specs.declared.Opening.{Opening}
@@ -18,13 +19,14 @@ use Rattle.plain.specs.Dealing.{manners, takenBy, fresh}
 use Rattle.plain.specs.Charging.{creditOf, debitOf}
 use Rattle.plain.specs.Calls.{Call, isDischarge, shortOf}
 use Rattle.plain.specs.Refusals.{refusal}
-use Rattle.plain.specs.Histories.{eventOf, pieces, quantity, along, refusals, quantities, run, allCharges, acceptedEvents, formedBy, balance}
-use Rattle.plain.specs.Invariants.{DueLong}
+use Rattle.plain.specs.Histories.{eventOf, pieces, quantity, along, refusals, quantities, run, allCharges, acceptedEvents, formedBy, latestBy, balance}
+use Rattle.plain.specs.Invariants.{DueLong, NeedsPrice, GivenToday}
 use Rattle.plain.specs.Sound.{Small}
 use Rattle.pieces.specs.Sheet.{piecesOf}
 use Rattle.kept.specs.View.{answer, numberOf, quantityOf}
 use Rattle.calls.specs.declared.PositionAnswer.the-variants.{Found}
-use Rattle.calls.specs.Reading.{positionAnswer, signed, balanceAnswer}
+use Rattle.calls.specs.declared.PriceAnswer.the-variants as price
+use Rattle.calls.specs.Reading.{positionAnswer, priceAnswer, signed, balanceAnswer}
 use Rattle.history.specs.Runs.{Stand, view, Sheet, noSheet, numberSheet, pieceSheet, handedBack, Return, piecesOn, last, sheets}
 
 -- what is said of each call of a list
@@ -40,6 +42,10 @@ pub record Dealt (s : Stand) (c : Call) (r : Return) : Type 0 where
 
 abbrev pub DealtOut : Stand → Call → Return → Type 0
 DealtOut s c r = numberOf (r .outcome) ≡ 0 → isDischarge (eventOf c) ≡ true → Dealt s c r
+
+-- of an attempt or cash settlement that was accepted: the latest price of its security was given today
+abbrev pub Fresh : Stand → Call → Return → Type 0
+Fresh s c r = (n : ℕ) → numberOf (r .outcome) ≡ 0 → NeedsPrice (eventOf c) n → GivenToday (view s) (positionOf (view s) n .security)
 
 -- "A refused call changes nothing": core and tables are the very same
 abbrev pub Kept : Stand → Call → Return → Type 0
@@ -82,6 +88,12 @@ pub record History (opening : Opening) (s : Stand) (cs : List Call) (rs : List R
       ≡ sum (λ m. takenBy m n (sheets rs)) manners + p .unsettled
   -- and all that makes a position comes from them alone: its member, security, side, delivery day and reference price
   pub positions : map fresh (view (last s rs) .positions) ≡ formedBy opening (acceptedEvents (new opening) cs)
+  -- each security's latest price and the day on which it was given, as the public read reports them of any number, come from the accepted prices
+  -- and closes of the list alone
+  pub latest-prices : (security : ℕ) → priceAnswer (view (last s rs)) security
+      ≡ cond (within 1 (opening .register .count) security) (price.Found (latestBy opening (acceptedEvents (new opening) cs) security)) (price.Refused 10)
+  -- and each accepted attempt or cash settlement goes by a price that was given on its day
+  pub fresh : Each Fresh s cs rs
   -- 3. each call's pieces are the plain book's, in the same order; an accepted discharge's add up to the quantity that it reports
   pub dealt : map piecesOn rs ≡ along pieces (new opening) cs
   pub discharges : Each DealtOut s cs rs

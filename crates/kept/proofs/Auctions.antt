@@ -21,6 +21,7 @@ use Rattle.events.specs.declared.Attempt.{Attempt}
 use Rattle.events.specs.declared.Offer.{Offer}
 use Rattle.events.specs.declared.Award.{Award}
 use Rattle.events.specs.declared.Event.the-variants as event
+use Rattle.plain.specs.declared.LatestPrice.{LatestPrice}
 use Rattle.plain.specs.declared.Position.{Position}
 use Rattle.plain.specs.declared.Award as made
 use Rattle.plain.specs.Book as plain
@@ -29,6 +30,7 @@ use Rattle.plain.specs.Changing as changing
 use Rattle.plain.specs.Calls.{call, done, amount, auctionAwards}
 use Rattle.plain.specs.Refusals.{refusal, stepToday, attemptReasons, offerReasons, auctionReasons, awardReasons, reasons}
 use Rattle.plain.proofs.Accepted.{AwardTaken, award-taken}
+use Rattle.plain.proofs.Prices.{price-told}
 use Rattle.plain.specs.Invariants.{Fair}
 use Rattle.tables.specs.Tables.{Positions, Awards}
 use Rattle.tables.specs.Tables as table
@@ -130,8 +132,8 @@ module _ (b : Kept) (v : Valid b) (n : ℕ) (in-use : within 1 (b .positions .co
   security-at p at =
       rw at (fair-at .security .above, omega (arith, fair-at .security .below, v .fits .register .high))
 
-module _ {p q : Position} {s t : Step} {l m k j : ℕ} {x y : Bool} (auction : ℕ) where
-  same-attempt : p ≡ q → s ≡ t → l ≡ m → k ≡ j → x ≡ y → first (attemptReasons p s auction l k x) ≡ first (attemptReasons q t auction m j y)
+module _ {p q : Position} {s t : Step} {l m : LatestPrice} {k j : ℕ} {x y : Bool} (day auction : ℕ) where
+  same-attempt : p ≡ q → s ≡ t → l ≡ m → k ≡ j → x ≡ y → first (attemptReasons p day s auction l k x) ≡ first (attemptReasons q day t auction m j y)
   same-attempt a c d e f = cc
 
 marks-is : (b : Kept) → Fits b → length (table.marks (b .marks)) ≡ b .marks .count
@@ -145,11 +147,14 @@ attempt-missing b a f e =
 
 module _ (b : Kept) (a : Attempt) (v : Valid b) (in-use : within 1 (b .positions .count) (a .position) ≡ true)
     (p : Position) (at : p ≡ plain.positionOf (view b) (a .position))
-    (latest : ℕ) (priced : latest ≡ plain.nth plain.noPrice (b .prices .latest) (p .security) .price)
+    (latest : LatestPrice) (looked : latest ≡ plain.lookedUp (plain.nth plain.noPrice (table.prices (b .prices)) (p .security)))
     (class : ℕ) (classed : class ≡ plain.nth 0 (b .opening .register .classes) (p .security)) where
-  latest-is : latest ≡ plain.latestOf (view b) (plain.positionOf (view b) (a .position) .security)
+  latest-is : latest ≡ plain.latestPrice (view b) (plain.positionOf (view b) (a .position) .security)
   unfolding view
-  latest-is = priced ∙ ap (λ (q : Position). plain.nth plain.noPrice (b .prices .latest) (q .security) .price) at
+  latest-is = looked ∙ ap (λ (q : Position). plain.lookedUp (plain.nth plain.noPrice (table.prices (b .prices)) (q .security))) at
+
+  price-is : (price : ℕ) → price ≡ plain.priceIn latest → price ≡ plain.latestOf (view b) (plain.positionOf (view b) (a .position) .security)
+  price-is price told = told ∙ ap plain.priceIn latest-is ∙ price-told _
 
   class-is : class ≡ plain.classOf (view b) (plain.positionOf (view b) (a .position) .security)
   unfolding view
@@ -157,25 +162,25 @@ module _ (b : Kept) (a : Attempt) (v : Valid b) (in-use : within 1 (b .positions
 
   pub attempt-number : (today : Step) (marked : Bool)
       → today ≡ stepOn class (b .day .0 - p .settlement .0) → marked ≡ some (λ k. eqb k (a .position)) (table.marks (b .marks))
-      → first (attemptReasons p today (b .auction .position) latest (b .marks .count) marked) ≡ refusal (view b) (call (event.Attempt a) 0)
+      → first (attemptReasons p (b .day .0) today (b .auction .position) latest (b .marks .count) marked) ≡ refusal (view b) (call (event.Attempt a) 0)
   unfolding view stepToday reasons refusal Rattle.tables.specs.Tables.auction
   attempt-number today marked on m =
       past 11 (ap not (there-is b v (a .position) in-use))
-      (same-attempt (b .auction .position) at
+      (same-attempt (b .day .0) (b .auction .position) at
       (on ∙ ap (λ (c : ℕ). stepOn c (b .day .0 - p .settlement .0)) classed ∙ ap (stepToday (view b)) at)
       latest-is (sym (marks-is b (v .fits))) m)
 
-  pub ceiling-is : (c : ℕ) → c ≡ ceiling class latest → c ≡ ceilingOn (view b) (a .position)
-  ceiling-is c e =
+  pub ceiling-is : (price c : ℕ) → price ≡ plain.priceIn latest → c ≡ ceiling class price → c ≡ ceilingOn (view b) (a .position)
+  ceiling-is price c told e =
       e
-      ∙ ap (λ (k : ℕ). ceiling k latest) class-is
-      ∙ ap (λ (k : ℕ). ceiling (plain.classOf (view b) (plain.positionOf (view b) (a .position) .security)) k) latest-is
+      ∙ ap (λ (k : ℕ). ceiling k price) class-is
+      ∙ ap (λ (k : ℕ). ceiling (plain.classOf (view b) (plain.positionOf (view b) (a .position) .security)) k) (price-is price told)
 
 -- an attempt that is accepted finds a place among the marks
-pub mark-room : (p : Position) (today : Step) (auction latest attempts : ℕ) (marked : Bool) → first (attemptReasons p today auction latest attempts marked) ≡ 0 → attempts < 16
+pub mark-room : (p : Position) (day : ℕ) (today : Step) (auction : ℕ) (latest : LatestPrice) (attempts : ℕ) (marked : Bool) → first (attemptReasons p day today auction latest attempts marked) ≡ 0 → attempts < 16
 unfolding attemptReasons
-mark-room p today auction latest attempts marked e =
-    let h = none-applies (attemptReasons p today auction latest attempts marked) refl e in
+mark-room p day today auction latest attempts marked e =
+    let h = none-applies (attemptReasons p day today auction latest attempts marked) refl e in
     leb-false 16 attempts (search)
 
 -- the book with one more mark and an auction without offers

@@ -72,9 +72,11 @@ module _ (b : Kept) (v : Valid b) where
       (all-awarded (view b) (v .sound .auctioned))
 
   pub close-finable : refusal (view b) (call event.Close 0) ≡ 0 → CloseFinable (b .ledger) (b .awards) (b .positions) (b .prices) (b .opening .register) (b .day)
+  unfolding view
   close-finable e =
       record {
         room = subst (λ (cs : List Charge). Room (b .ledger) cs) (sym same-charges) (close-room e);
+        prices-many = v .sound .standing .prices .many;
         positions-fit = v .fits .positions;
         accounted = accounted b v;
         awards-fit = v .fits .awards;

@@ -19,6 +19,7 @@ use Rattle.events.specs.declared.Confirm.{Confirm}
 use Rattle.events.specs.declared.Cash.{Cash}
 use Rattle.events.specs.declared.Event.{Event}
 use Rattle.events.specs.declared.Event.the-variants as event
+use Rattle.plain.specs.declared.LatestPrice.{LatestPrice}
 use Rattle.plain.specs.declared.Position.{Position}
 use Rattle.plain.specs.declared.Award.{Award}
 use Rattle.plain.specs.declared.Piece.{Piece}
@@ -281,19 +282,19 @@ module _ (b : Kept) (v : Valid b) (c : Cash) where
   settledShort = plain.positionOf (view b) (c .position)
 
   module _ (sheet : ℕ) where
-    pub cash-split : refusal (view b) (call (event.Cash c) sheet) ≡ first (lookupReasons sheet (b .positions .count) (c .position) ++ cashReasons settledShort (stepOn (plain.classOf (view b) (settledShort .security)) (b .day .0 - settledShort .settlement .0)) (plain.latestOf (view b) (settledShort .security)))
+    pub cash-split : refusal (view b) (call (event.Cash c) sheet) ≡ first (lookupReasons sheet (b .positions .count) (c .position) ++ cashReasons settledShort (b .day .0) (stepOn (plain.classOf (view b) (settledShort .security)) (b .day .0 - settledShort .settlement .0)) (plain.latestPrice (view b) (settledShort .security)))
     unfolding view stepToday reasons refusal
     cash-split =
-        ap (λ (k : ℕ). first (lookupReasons sheet k (c .position) ++ cashReasons settledShort (stepOn (plain.classOf (view b) (settledShort .security)) (b .day .0 - settledShort .settlement .0)) (plain.latestOf (view b) (settledShort .security)))) (positions-many (b .positions) (v .fits .positions))
+        ap (λ (k : ℕ). first (lookupReasons sheet k (c .position) ++ cashReasons settledShort (b .day .0) (stepOn (plain.classOf (view b) (settledShort .security)) (b .day .0 - settledShort .settlement .0)) (plain.latestPrice (view b) (settledShort .security)))) (positions-many (b .positions) (v .fits .positions))
 
-    pub cash-number : (p : Position) (class latest : ℕ) (today : Step) (number : ℕ)
+    pub cash-number : (p : Position) (class : ℕ) (latest : LatestPrice) (today : Step) (number : ℕ)
         → first (lookupReasons sheet (b .positions .count) (c .position)) ≡ 0 → p ≡ plain.nth plain.noPosition (table.positions (b .positions)) (c .position)
-        → class ≡ plain.nth 0 (b .opening .register .classes) (p .security) → latest ≡ plain.nth plain.noPrice (b .prices .latest) (p .security) .price
-        → today ≡ stepOn class (b .day .0 - p .settlement .0) → number ≡ first (cashReasons p today latest)
+        → class ≡ plain.nth 0 (b .opening .register .classes) (p .security) → latest ≡ plain.lookedUp (plain.nth plain.noPrice (table.prices (b .prices)) (p .security))
+        → today ≡ stepOn class (b .day .0 - p .settlement .0) → number ≡ first (cashReasons p (b .day .0) today latest)
         → refusal (view b) (call (event.Cash c) sheet) ≡ number
     unfolding view
-    cash-number p class latest today number e same classed price step is =
-        found-number sheet _ _ _ _ cash-split e ∙ sym (rw (step, price, classed, same) at is)
+    cash-number p class latest today number e same classed looked step is =
+        found-number sheet _ _ _ _ cash-split e ∙ sym (rw (step, looked, classed, same) at is)
 
   pub cash-security : (p : Position) → Within 1 (b .positions .count) (c .position) → p ≡ plain.nth plain.noPosition (table.positions (b .positions)) (c .position) → Within 1 32 (p .security)
   unfolding view
@@ -303,13 +304,13 @@ module _ (b : Kept) (v : Valid b) (c : Cash) where
 
   pub cash-terms : (p : Position) (class latest : ℕ)
       → p ≡ plain.nth plain.noPosition (table.positions (b .positions)) (c .position) → class ≡ plain.nth 0 (b .opening .register .classes) (p .security)
-      → latest ≡ plain.nth plain.noPrice (b .prices .latest) (p .security) .price → Terms (view b) (c .position) (p .unsettled) class latest
+      → latest ≡ plain.nth plain.noPrice (table.prices (b .prices)) (p .security) .price → Terms (view b) (c .position) (p .unsettled) class latest
   unfolding view
   cash-terms p class latest same classed price =
       record {
         unsettled = ap (λ (q : Position). q .unsettled) same;
         classed = classed ∙ ap (λ (q : Position). plain.nth 0 (b .opening .register .classes) (q .security)) same;
-        latest = price ∙ ap (λ (q : Position). plain.nth plain.noPrice (b .prices .latest) (q .security) .price) same;
+        latest = price ∙ ap (λ (q : Position). plain.nth plain.noPrice (table.prices (b .prices)) (q .security) .price) same;
       }
 
   module _ (k : Dischargeable b (event.Cash c)) (units class latest : ℕ) (t : Terms (view b) (c .position) units class latest) where
@@ -336,7 +337,7 @@ module _ (b : Kept) (v : Valid b) (c : Cash) where
       unfolding view
       cash-priceable =
           record {
-            price = rw (t .latest) (nth-anywhere plain.noPrice (λ l. l .price ≤ 10000000) (b .prices .latest) (settledShort .security) (omega arith) (v .sound .standing .prices .small));
+            price = rw (t .latest) (nth-anywhere plain.noPrice (λ l. l .price ≤ 10000000) (table.prices (b .prices)) (settledShort .security) (omega arith) (v .sound .standing .prices .small));
             positions-fit = v .fits .positions;
             references = all-references (b .opening .register .count) (b .day .0) (table.positions (b .positions)) (v .sound .standing .fair);
             pieces-fit = f .pieces-fit;

@@ -10,9 +10,11 @@ use lib.Seq.{length-take-le, take-suc-set, drop-append-le}
 use borrow.Author.Tests.{leb-false, not-false}
 use Rattle.laws.specs.Asked.{within-low, within-high, within}
 use Rattle.laws.specs.Refusals.{first, none-applies}
+use Rattle.laws.specs.Zips.{zip-set}
 use Rattle.events.specs.declared.Trade.{Trade}
 use Rattle.events.specs.declared.Price.{Price}
 use Rattle.events.specs.declared.Event.the-variants as event
+use Rattle.plain.specs.declared.Latest.{Latest}
 use Rattle.plain.specs.Changing as changing
 use Rattle.plain.specs.Calls.{call, done}
 use Rattle.plain.specs.Refusals.{refusal, tradeReasons, priceReasons, reasons}
@@ -88,13 +90,16 @@ module _ (b : Kept) (t : Trade) (f : Fits b) (room : b .trades .count < 512) whe
         places = f .places;
       }
 
--- the book with a security's latest price
+-- the book with a security's latest price, given today
 abbrev pub withPrice : Kept → Price → Kept
-withPrice b p = withPrices b (record { latest = set (b .prices .latest) (p .security - 1) (record { price = p .price }) })
+withPrice b p =
+    withPrices b
+    (record { latest = set (b .prices .latest) (p .security - 1) (p .price); days = set (b .prices .days) (p .security - 1) (b .day) })
 
 pub price-view : (b : Kept) (p : Price) → view (withPrice b p) ≡ done (view b) (event.Price p)
-unfolding view done
-price-view b p = refl
+unfolding view done Rattle.tables.specs.Tables.prices
+price-view b p =
+    ap (λ (l : List Latest). changing.withPrices (view b) l) (zip-set table.dated (b .prices .latest) (b .prices .days) (p .security - 1) (p .price) (b .day))
 
 pub price-fits : (b : Kept) (p : Price) → Fits b → Fits (withPrice b p)
 price-fits b p f =

@@ -12,12 +12,13 @@ use Rattle.plain.proofs.Sound.{new-sound}
 use Rattle.plain.proofs.Accounts.{new-places, new-balanced}
 use Rattle.plain.proofs.Bound.{new-bound}
 use Rattle.tables.specs.Tables.{today, positions, auction, awards, marks}
+use Rattle.tables.specs.Tables as table
 use Rattle.kept.specs.View.{Kept, view, Fits, Valid}
 
 pub record Unused (b : Kept) : Type 0 where
   pub day : b .day .0 ≡ plain.firstDay (b .opening)
   pub trades : (b .trades .count ≡ 0) × (b .trades .netted ≡ 0) × (length (b .trades .items) ≡ 512)
-  pub prices : b .prices .latest ≡ replicate 32 plain.noPrice
+  pub prices : table.prices (b .prices) ≡ replicate 32 plain.noPrice
   pub positions : (b .positions .count ≡ 0) × (length (b .positions .items) ≡ 1024)
   pub auction : (b .auction .position ≡ 0) × (b .auction .ceiling ≡ 0) × (b .auction .count ≡ 0) × (length (b .auction .offers) ≡ 16)
   pub awards : (b .awards .count ≡ 0) × (length (b .awards .items) ≡ 256)

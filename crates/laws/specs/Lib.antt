@@ -9,6 +9,7 @@ pub mod Alls
 pub mod Places
 pub mod Integers
 pub mod Ranges
+pub mod Zips
 pub mod WordLaws
 pub mod Parts
 pub mod Masks

@@ -3,8 +3,10 @@ use Prim.Native.Nat.{ℕ, _-_, _*_, _≤_}
 use mathlib.Core.Path.{_≡_, ap, sym}
 use mathlib.Core.List.{List, [], _∷_}
 use mathlib.Core.Bool.{Bool, true, false, not, _&&_}
-use lib.ListN.{getD}
+use lib.ListN.{length, getD}
 use lib.Dec.{ltb, eqb}
+use Rattle.laws.specs.Limits.{SECURITIES}
+use Rattle.laws.specs.Asked.{Within}
 use Rattle.rules.specs.Charges.{awardFine, lateFine}
 use Rattle.register.specs.declared.Register.{Register}
 use Rattle.plain.specs.declared.Position.{Position}
@@ -15,7 +17,8 @@ use Rattle.plain.specs.Book.{Book, noPrice, nth, positionOf, classOf, latestOf}
 use Rattle.plain.proofs.Numbered.{nth-at}
 use Rattle.plain.specs.Dealing.{due}
 use Rattle.plain.specs.Charging.{posted, credited, debited, awardFines, lateFines}
-use Rattle.tables.specs.Tables.{Positions, Awards, awards}
+use Rattle.tables.specs.Tables.{Positions, Awards, prices, awards}
+use Rattle.tables.specs.Columns.{price-named}
 use Rattle.tables.specs.declared.Prices.{Prices}
 use Rattle.ledger.specs.Parts.{awardFinesOf}
 
@@ -23,8 +26,8 @@ use Rattle.ledger.specs.Parts.{awardFinesOf}
 pub class-read : (classes : List ℕ) (s : ℕ) → 1 ≤ s → getD classes (s - 1) 0 ≡ nth 0 classes s
 class-read classes s h = sym (nth-at 0 classes s h)
 
-pub latest-read : (prices : List Latest) (s : ℕ) → 1 ≤ s → getD prices (s - 1) noPrice .price ≡ nth noPrice prices s .price
-latest-read prices s h = ap (λ (l : Latest). l .price) (sym (nth-at noPrice prices s h))
+pub latest-read : (t : Prices) (s : ℕ) → length (prices t) ≡ SECURITIES → Within 1 SECURITIES s → getD (t .latest) (s - 1) 0 ≡ nth noPrice (prices t) s .price
+latest-read t s many known = ap (λ (l : Latest). l .price) (sym (price-named t s many known))
 
 -- an award on a position whose security has this latest price; `fined` is what the test said
 module _

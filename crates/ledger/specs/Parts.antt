@@ -11,6 +11,7 @@ use Rattle.plain.specs.declared.Piece.{Piece}
 use Rattle.plain.specs.Book.{Book, new, positionOf, classOf, latestOf}
 use Rattle.plain.specs.Changing.{withDay, withPrices, withPositions}
 use Rattle.plain.specs.Charging.{Charge, pricedBy, priced, awardFines, lateFines, closeCharges}
+use Rattle.tables.specs.Tables as table
 use Rattle.tables.specs.Tables.{Positions, Awards, positions, awards}
 use Rattle.tables.specs.declared.Prices.{Prices}
 
@@ -21,10 +22,10 @@ bookOf register day prices ps = withPositions (withPrices (withDay (new (record 
 -- Close. The fines of awards go by no day.
 
 unfoldable pub awardFinesOf : Awards → Positions → Prices → Register → List Charge
-awardFinesOf a p prices register = each (awardFines (bookOf register 0 (prices .latest) (positions p))) (awards a)
+awardFinesOf a p prices register = each (awardFines (bookOf register 0 (table.prices prices) (positions p))) (awards a)
 
 unfoldable pub lateFinesOf : Positions → Prices → Register → BusinessDay → List Charge
-lateFinesOf p prices register day = each (lateFines (bookOf register (day .0) (prices .latest) (positions p))) (positions p)
+lateFinesOf p prices register day = each (lateFines (bookOf register (day .0) (table.prices prices) (positions p))) (positions p)
 
 unfoldable pub closeChargesOf : Awards → Positions → Prices → Register → BusinessDay → List Charge
 closeChargesOf a p prices register day = awardFinesOf a p prices register ++ lateFinesOf p prices register day
@@ -38,7 +39,7 @@ module _
     (register : Register)
     (awards-same : b .awards ≡ awards a)
     (positions-same : b .positions ≡ positions p)
-    (prices-same : b .prices ≡ prices .latest)
+    (prices-same : b .prices ≡ table.prices prices)
     (register-same : b .opening .register ≡ register)
   where
     pub award-fines : awardFinesOf a p prices register ≡ each (awardFines b) (b .awards)

@@ -2,6 +2,7 @@
 use Prim.Native.Nat.{ℕ, _≤_, _<_}
 use mathlib.Core.Path.{_≡_}
 use mathlib.Core.List.{[], _∷_, map}
+use lib.ListN.{length}
 use Rattle.laws.specs.Limits.{ACCOUNTS, MOST-PRICE, SECURITIES}
 use Rattle.laws.specs.declared.BusinessDay.{BusinessDay}
 use Rattle.laws.specs.Lists.{All}
@@ -13,6 +14,7 @@ use Rattle.plain.specs.declared.Ledger.{Ledger}
 use Rattle.plain.specs.Charging.{Charge, pricedBy}
 use Rattle.laws.specs.Asked.{Within}
 use Rattle.plain.specs.Sound.{Booked}
+use Rattle.tables.specs.Tables as table
 use Rattle.tables.specs.Tables.{Positions, Awards, positions, pieces, awards, PositionsFit, PiecesFit, AwardsFit}
 use Rattle.tables.specs.declared.Prices.{Prices}
 use Rattle.tables.specs.declared.Pieces.{Pieces}
@@ -37,6 +39,7 @@ pub record Awarded (held : ℕ) (a : Award) : Type 0 where
 -- what posting the fines of awards asks, and posting the late fines
 pub record AwardsFinable (l : Ledger) (a : Awards) (p : Positions) (prices : Prices) (register : Register) : Type 0 where
   pub room : Room l (awardFinesOf a p prices register)
+  pub prices-many : length (table.prices prices) ≡ SECURITIES
   pub positions-fit : PositionsFit p
   pub accounted : All Accounted (positions p)
   pub awards-fit : AwardsFit a
@@ -44,11 +47,13 @@ pub record AwardsFinable (l : Ledger) (a : Awards) (p : Positions) (prices : Pri
 
 pub record LateFinable (l : Ledger) (p : Positions) (prices : Prices) (register : Register) (day : BusinessDay) : Type 0 where
   pub room : Room l (lateFinesOf p prices register day)
+  pub prices-many : length (table.prices prices) ≡ SECURITIES
   pub positions-fit : PositionsFit p
   pub accounted : All Accounted (positions p)
 
 pub record CloseFinable (l : Ledger) (a : Awards) (p : Positions) (prices : Prices) (register : Register) (day : BusinessDay) : Type 0 where
   pub room : Room l (closeChargesOf a p prices register day)
+  pub prices-many : length (table.prices prices) ≡ SECURITIES
   pub positions-fit : PositionsFit p
   pub accounted : All Accounted (positions p)
   pub awards-fit : AwardsFit a

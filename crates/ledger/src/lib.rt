@@ -98,8 +98,7 @@ pub fn post_award_fines(
         let place = (award.position - 1) as usize;
         let short = rows::row_at(rows, place);
         let k = (short.security - 1) as usize;
-        let quoted = prices.latest[k];
-        let latest = quoted.price;
+        let latest = prices.latest[k];
         if award_is_fined(award.confirmed, latest) {
             let class = register.classes[k];
             let fine = rules::award_fine(class, rules::value_of(award.quantity, latest));
@@ -128,8 +127,7 @@ pub fn post_late_fines(
         let short = rows::row_at(rows, i);
         let k = (short.security - 1) as usize;
         let class = register.classes[k];
-        let quoted = prices.latest[k];
-        let latest = quoted.price;
+        let latest = prices.latest[k];
         if short_is_fined(short, class, latest, day) {
             let fine = rules::late_fine(rules::value_of(short.unsettled, latest));
             raise_place(&mut after.credits, HOUSE, fine);

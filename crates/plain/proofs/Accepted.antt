@@ -22,12 +22,17 @@ use Rattle.events.specs.declared.Award as asked
 use Rattle.events.specs.declared.Confirm.{Confirm}
 use Rattle.events.specs.declared.Cash.{Cash}
 use Rattle.events.specs.declared.Event.the-variants as event
-use Rattle.plain.specs.Book.{Book, positionOf, awardOf, latestOf}
+use Rattle.plain.specs.Book.{Book, positionOf, awardOf, latestPrice}
 use Rattle.plain.specs.Dealing.{due}
 use Rattle.plain.specs.Auction.{failing, unconfirmed}
 use Rattle.plain.specs.Calls.{Call, call, done}
-use Rattle.plain.specs.Refusals.{stepToday, free, runsOn, reasons, refusal}
+use Rattle.plain.specs.Refusals.{isNever, isGivenBefore, stepToday, free, runsOn, reasons, refusal}
 use Rattle.plain.specs.Histories.{eventOf, next, run}
+
+-- what 19 and 32 leave: a price was given, and not before today
+pub record PricePassed (b : Book) (security : ℕ) : Type 0 where
+  pub ever : isNever (latestPrice b security) ≡ false
+  pub late : isGivenBefore (b .day) (latestPrice b security) ≡ false
 
 module _ (b : Book) where
   pub record TradeTaken (t : Trade) : Type 0 where
@@ -56,7 +61,7 @@ module _ (b : Book) where
     pub short : positionOf b (a .position) .short ≡ true
     pub window : stepKind (stepToday b (positionOf b (a .position))) ≡ 4
     pub quiet : b .auction .position ≡ 0
-    pub priced : latestOf b (positionOf b (a .position) .security) ≢ 0
+    pub priced : PricePassed b (positionOf b (a .position) .security)
     pub few : length (b .marks) < ATTEMPTS
     pub unmarked : some (λ n. eqb n (a .position)) (b .marks) ≡ false
     pub unsettled : positionOf b (a .position) .unsettled ≢ 0
@@ -83,7 +88,7 @@ module _ (b : Book) where
     pub held : Within 1 (length (b .positions)) (c .position)
     pub short : positionOf b (c .position) .short ≡ true
     pub window : stepKind (stepToday b (positionOf b (c .position))) ≡ 8
-    pub priced : latestOf b (positionOf b (c .position) .security) ≢ 0
+    pub priced : PricePassed b (positionOf b (c .position) .security)
     pub unsettled : positionOf b (c .position) .unsettled ≢ 0
 
   pub record CloseTaken : Type 0 where
@@ -140,7 +145,7 @@ module _ (b : Book) where
         short = not-false _ (search);
         window = eqb-true _ _ (not-false _ (search));
         quiet = omega arith;
-        priced = eqb-false _ _ (search);
+        priced = record { ever = search; late = search };
         few = leb-false _ _ (search);
         unmarked = search;
         unsettled = eqb-false _ _ (search);
@@ -184,7 +189,7 @@ module _ (b : Book) where
         held = both-bounds 1 (length (b .positions)) (c .position) (not-false _ (search));
         short = not-false _ (search);
         window = eqb-true _ _ (not-false _ (search));
-        priced = eqb-false _ _ (search);
+        priced = record { ever = search; late = search };
         unsettled = eqb-false _ _ (search);
       }
 

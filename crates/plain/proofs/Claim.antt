@@ -6,6 +6,7 @@ use Rattle.plain.specs.Book.{Book, new}
 use Rattle.plain.specs.Calls.{Call}
 use Rattle.plain.specs.Histories.{run}
 use Rattle.plain.proofs.Formed.{formed-new, formed-netted}
+use Rattle.plain.proofs.Prices.{last-new, given-today}
 use Rattle.plain.proofs.Standing.{standing-few}
 use Rattle.plain.specs.Sound.{Sound}
 use Rattle.plain.proofs.Sound.{done-sound, new-sound, sound, sound-dealt}
@@ -38,6 +39,7 @@ claim opening cs =
       netted = formed-netted opening cs;
       positions = formed-new opening cs;
       tallied = tally opening cs;
+      prices = λ s known. last-new s known opening cs (n .standing .prices);
       accounts' = accounts opening cs;
       zero-sum = accounts-zero Sound done-sound accountable opening cs n;
       small = accounts-small Sound done-sound bounding (λ b c e s. sound-dealt b s c e) opening cs n;
@@ -45,5 +47,6 @@ claim opening cs =
       few-awards = bounding (run (new opening) cs) h .few;
       holds = h;
       discharges = λ c e s. discharge (run (new opening) cs) c h e s;
+      fresh = λ c s e k. given-today (run (new opening) cs) c s (h .standing .prices) e k;
       refuses = refused (run (new opening) cs);
     }

@@ -12,7 +12,7 @@ use Rattle.events.specs.declared.Price.{Price}
 use Rattle.events.specs.declared.Event.the-variants as event
 use Rattle.plain.specs.declared.Position.{Position}
 use Rattle.plain.specs.declared.Piece.{Piece}
-use Rattle.plain.specs.Book.{Book}
+use Rattle.plain.specs.Book.{Book, givenOn}
 use Rattle.plain.specs.declared.Opening.{Opening}
 use Rattle.plain.specs.declared.Latest.{Latest}
 use Rattle.plain.specs.Changing.{withDay, withPast, withTrades, withPrices, withPositions}
@@ -45,7 +45,7 @@ parts b =
 pub record Steps (P : Parts → Type 0) (b : Book) : Type 0 where
   pub kept : P (parts b)
   pub traded : (t : Trade) → TradeTaken b t → P (parts (withTrades b (b .trades ++ t ∷ [])))
-  pub priced : (p : Price) → PriceTaken b p → P (parts (withPrices b (set (b .prices) (p .security - 1) (record { price = p .price }))))
+  pub priced : (p : Price) → PriceTaken b p → P (parts (withPrices b (set (b .prices) (p .security - 1) (givenOn (b .day) (p .price)))))
   pub lowers : (xs : List Piece) → P (parts (withPositions b (lowering xs (b .positions))))
   pub closed : CloseTaken b → P
       (parts
@@ -122,19 +122,26 @@ done-held b c e h =
 
 -- THE PRICES
 
-pub done-prices : (b : Book) (c : Call) → refusal b c ≡ 0 → PricesFit (b .prices) → PricesFit (done b (eventOf c) .prices)
+pub done-prices : (b : Book) (c : Call) → refusal b c ≡ 0 → PricesFit (b .day) (b .prices) → PricesFit (done b (eventOf c) .day) (done b (eventOf c) .prices)
 done-prices b c e h =
-    done-steps (λ x. PricesFit (x .prices)) b c e
+    done-steps (λ x. PricesFit (x .day) (x .prices)) b c e
     (record {
       kept = h;
       traded = λ t k. h;
       priced = λ p k.
+          let x = givenOn (b .day) (p .price) in
           record {
-            many = length-set (b .prices) (p .security - 1) (record { price = p .price }) ∙ h .many;
-            small = all-set (λ l. l .price ≤ MOST-PRICE) (b .prices) (p .security - 1) (record { price = p .price }) (k .price .below) (h .small);
+            many = length-set (b .prices) (p .security - 1) x ∙ h .many;
+            small = all-set (λ l. l .price ≤ MOST-PRICE) (b .prices) (p .security - 1) x (k .price .below) (h .small);
+            days = all-set (λ l. l .day .0 ≤ b .day) (b .prices) (p .security - 1) x (omega arith) (h .days);
           };
       lowers = λ xs. h;
-      closed = λ k. h;
+      closed = λ k.
+          record {
+            many = h .many;
+            small = h .small;
+            days = all-of (λ l. l .day .0 ≤ b .day) (λ l. l .day .0 ≤ suc (b .day)) (b .prices) (λ l n. omega (arith, n)) (h .days);
+          };
     })
 
 -- THE POSITIONS

@@ -8,6 +8,7 @@ pub mod AwardSteps
 pub mod Closing
 pub mod Steps
 pub mod Kept
+pub mod Prices
 pub mod Order
 pub mod Formed
 pub mod Standing

@@ -36,7 +36,12 @@ new-standing register =
       day = record { above = omega arith; below = omega arith };
       trades = tt;
       held = omega arith;
-      prices = record { many = length-replicate SECURITIES noPrice; small = all-replicate (λ p. p .price ≤ MOST-PRICE) SECURITIES noPrice (omega arith) };
+      prices =
+          record {
+            many = length-replicate SECURITIES noPrice;
+            small = all-replicate (λ p. p .price ≤ MOST-PRICE) SECURITIES noPrice (omega arith);
+            days = all-replicate (λ p. p .day .0 ≤ 1) SECURITIES noPrice (omega arith);
+          };
       fair = tt;
       rising = tt;
       counted = omega arith;

@@ -1,8 +1,9 @@
 -- Document 01, 'The plain book': what the plain book keeps, and the book as it opens.
 use Prim.Native.Nat.{ℕ}
 use mathlib.Core.List.{List, [], _∷_}
-use mathlib.Core.Bool.{Bool, false}
+use mathlib.Core.Bool.{Bool, false, cond}
 use lib.ListN.{length, getD, replicate}
+use lib.Dec.{eqb}
 use Rattle.laws.specs.Limits.{ACCOUNTS, SECURITIES}
 use Rattle.laws.specs.Asked.{within}
 use Rattle.register.specs.Register.{registerRead}
@@ -10,6 +11,8 @@ use Rattle.events.specs.declared.Trade.{Trade}
 use Rattle.events.specs.declared.Offer.{Offer}
 use Rattle.plain.specs.declared.Opening.{Opening}
 use Rattle.plain.specs.declared.Latest.{Latest}
+use Rattle.plain.specs.declared.LatestPrice.{LatestPrice}
+use Rattle.plain.specs.declared.LatestPrice.the-variants.{Never, Given}
 use Rattle.plain.specs.declared.Position.{Position}
 use Rattle.plain.specs.declared.Award.{Award}
 use Rattle.plain.specs.declared.Ledger.{Ledger}
@@ -28,7 +31,7 @@ pub record Book : Type 0 where
   -- how many trades of earlier days it holds, and the trades of today
   pub past : ℕ
   pub trades : List Trade
-  -- the latest price of each security, 0 where it never had one
+  -- the latest price of each security and the day on which it was given, price 0 where it never had one
   pub prices : List Latest
   pub positions : List Position
   pub auction : Auction
@@ -50,7 +53,11 @@ abbrev pub firstDay : Opening → ℕ
 firstDay opening = 1
 
 abbrev pub noPrice : Latest
-noPrice = record { price = 0 }
+noPrice = record { price = 0; day = record { 0 = 0 } }
+
+-- a price that was given on a day
+abbrev pub givenOn : ℕ → ℕ → Latest
+givenOn day price = record { price = price; day = record { 0 = day } }
 
 -- "Accounts start at 0 cents"; "A new book is at business day 1 and has no trade, position or price."
 unfoldable pub new : Opening → Book
@@ -107,3 +114,15 @@ classOf b security = nth 0 (b .opening .register .classes) security
 
 abbrev pub latestOf : Book → ℕ → ℕ
 latestOf b security = nth noPrice (b .prices) security .price
+
+-- document 02, Slip 3: "The lookup of the latest price shall also tell the day it was given". No price that was given is 0 (13)
+abbrev pub lookedUp : Latest → LatestPrice
+lookedUp latest = cond (eqb (latest .price) 0) Never (Given latest)
+
+abbrev pub latestPrice : Book → ℕ → LatestPrice
+latestPrice b security = lookedUp (nth noPrice (b .prices) security)
+
+-- the price that a lookup tells, 0 where none was given
+abbrev pub priceIn : LatestPrice → ℕ
+priceIn Never = 0
+priceIn (Given latest) = latest .price

@@ -11,7 +11,7 @@ use Rattle.plain.specs.declared.Piece.{Piece}
 use Rattle.plain.specs.declared.Award.{Award}
 use Rattle.plain.specs.declared.Manner.{Manner}
 use Rattle.plain.specs.declared.Manner.the-variants.{Delivered, BoughtIn, Cash}
-use Rattle.plain.specs.Book.{Book, noAuction, positionOf, awardOf, classOf, latestOf}
+use Rattle.plain.specs.Book.{Book, noAuction, givenOn, positionOf, awardOf, classOf, latestOf}
 use Rattle.plain.specs.Changing.{withDay, withPast, withTrades, withPrices, withPositions, withAuction, withAwards, withMarks, withLedger}
 use Rattle.plain.specs.Netting.{keys, netted}
 use Rattle.plain.specs.Dealing.{takers, dealTo, lowering}
@@ -76,7 +76,7 @@ amount b event.Close = 0
 -- "A trade, offer or price is added. An attempt sets its mark and starts an auction, an award ends it in awards."; "a confirmed award is marked. A close does all under Close."
 unfoldable pub done : Book → Event → Book
 done b (event.Trade t) = withTrades b (b .trades ++ t ∷ [])
-done b (event.Price p) = withPrices b (set (b .prices) (p .security - 1) (record { price = p .price }))
+done b (event.Price p) = withPrices b (set (b .prices) (p .security - 1) (givenOn (b .day) (p .price)))
 done b (event.Delivery d) = discharged b (handsOut b (event.Delivery d)) (charges b (event.Delivery d))
 done b (event.Attempt a) =
     let security = positionOf b (a .position) .security in

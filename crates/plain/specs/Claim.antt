@@ -6,17 +6,18 @@ use mathlib.Core.List.{List, [], map}
 use mathlib.Core.Bool.{true}
 use lib.ListN.{length, getD}
 use lib.IntN.{pos, subℕ}
-use Rattle.laws.specs.Limits.{ACCOUNTS, POSITIONS, AWARDS}
+use Rattle.laws.specs.Limits.{ACCOUNTS, POSITIONS, AWARDS, SECURITIES}
 use Rattle.laws.specs.Lists.{All, range, sum}
+use Rattle.laws.specs.Asked.{Within}
 use Rattle.laws.specs.Integers.{sumℤ}
 use Rattle.plain.specs.declared.Opening.{Opening}
-use Rattle.plain.specs.Book.{Book, new, noPosition, positionOf}
+use Rattle.plain.specs.Book.{Book, new, noPosition, positionOf, latestPrice}
 use Rattle.plain.specs.Dealing.{manners, takenBy, fresh}
 use Rattle.plain.specs.Charging.{creditOf, debitOf}
 use Rattle.plain.specs.Calls.{Call, isDischarge, shortOf}
 use Rattle.plain.specs.Refusals.{refusal}
-use Rattle.plain.specs.Histories.{eventOf, next, pieces, quantity, charged, run, handed, allCharges, acceptedEvents, formedBy, balance}
-use Rattle.plain.specs.Invariants.{DueLong, Dealable}
+use Rattle.plain.specs.Histories.{eventOf, next, pieces, quantity, charged, run, handed, allCharges, acceptedEvents, formedBy, latestBy, balance}
+use Rattle.plain.specs.Invariants.{DueLong, Dealable, NeedsPrice, GivenToday}
 use Rattle.plain.specs.Sound.{Sound, Small}
 
 -- the pieces of a call, from its short n
@@ -47,6 +48,9 @@ pub record Claim (opening : Opening) (cs : List Call) : Type 0 where
   pub tallied : (i : ℕ) → i < length (run (new opening) cs .positions)
       → getD (run (new opening) cs .positions) i noPosition .netted
       ≡ sum (λ m. takenBy m (suc i) (handed (new opening) cs)) manners + getD (run (new opening) cs .positions) i noPosition .unsettled
+  -- each security's latest price, and the day on which it was given, are worked out from the accepted prices and closes of the list alone
+  pub prices : (security : ℕ) → Within 1 SECURITIES security
+      → latestPrice (run (new opening) cs) security ≡ latestBy opening (acceptedEvents (new opening) cs) security
   -- each account is the charging rules summed over the list
   pub accounts' : (k : ℕ) → k < ACCOUNTS → balance (run (new opening) cs) k ≡ subℕ (creditOf k (allCharges (new opening) cs)) (debitOf k (allCharges (new opening) cs))
   -- all 64 add up to zero
@@ -61,5 +65,8 @@ pub record Claim (opening : Opening) (cs : List Call) : Type 0 where
   pub holds : Sound (run (new opening) cs)
   -- a next call that is a discharge and is accepted hands out pieces that add up to its quantity, from that short to due longs of its security
   pub discharges : (c : Call) → refusal (run (new opening) cs) c ≡ 0 → isDischarge (eventOf c) ≡ true → Discharge (run (new opening) cs) c (shortOf (run (new opening) cs) (eventOf c))
+  -- a next call that is an attempt or a cash settlement and is accepted goes by a price that was given today
+  pub fresh : (c : Call) (n : ℕ) → refusal (run (new opening) cs) c ≡ 0 → NeedsPrice (eventOf c) n
+      → GivenToday (run (new opening) cs) (positionOf (run (new opening) cs) n .security)
   -- a next call that is refused changes nothing and hands out nothing
   pub refuses : (c : Call) → refusal (run (new opening) cs) c ≢ 0 → Refused (run (new opening) cs) c

@@ -3,15 +3,19 @@ use Prim.Native.Nat.{ℕ, suc, _+_}
 use mathlib.Core.List.{List, [], _∷_, _++_, map}
 use lib.ListN.{getD}
 use lib.IntN.{ℤ, subℕ}
+use lib.Dec.{eqb}
+use mathlib.Core.Bool.{cond}
 use Rattle.laws.specs.Limits.{PLACES}
 use Rattle.laws.specs.Refusals.{accepted}
 use Rattle.events.specs.declared.Trade.{Trade}
 use Rattle.events.specs.declared.Event.{Event}
 use Rattle.events.specs.declared.Event.the-variants as event
 use Rattle.plain.specs.declared.Opening.{Opening}
+use Rattle.plain.specs.declared.LatestPrice.{LatestPrice}
+use Rattle.plain.specs.declared.LatestPrice.the-variants.{Never, Given}
 use Rattle.plain.specs.declared.Position.{Position}
 use Rattle.plain.specs.declared.Piece.{Piece}
-use Rattle.plain.specs.Book.{Book, firstDay, new}
+use Rattle.plain.specs.Book.{Book, firstDay, givenOn, new}
 use Rattle.plain.specs.Netting.{Key, keys, units, highest, made, netOf, net, netted}
 use Rattle.plain.specs.Dealing.{due, longOf, longsOn, takers, share, dealTo, names, taken, takenBy, lowered, lowering, fresh}
 use Rattle.plain.specs.Auction.{failing, insert, byPrice, awarded, unconfirmed, confirmedAward}
@@ -86,11 +90,30 @@ formed ks day trades (event.Close ∷ es) = netted day trades ks ++ formed ks (s
 abbrev pub formedBy : Opening → List Event → List Position
 formedBy opening es = formed (keys (opening .register .count)) (firstDay opening) [] es
 
+-- the latest price of a security that the accepted prices and closes alone make, from a day and what was given up to then
+unfoldable pub lastGiven : ℕ → ℕ → LatestPrice → List Event → LatestPrice
+lastGiven security day latest [] = latest
+lastGiven security day latest (event.Trade t ∷ es) = lastGiven security day latest es
+lastGiven security day latest (event.Price p ∷ es) =
+    let given = cond (eqb (p .security) security) (Given (givenOn day (p .price))) latest in
+    lastGiven security day given es
+lastGiven security day latest (event.Delivery d ∷ es) = lastGiven security day latest es
+lastGiven security day latest (event.Attempt a ∷ es) = lastGiven security day latest es
+lastGiven security day latest (event.Offer o ∷ es) = lastGiven security day latest es
+lastGiven security day latest (event.Award a ∷ es) = lastGiven security day latest es
+lastGiven security day latest (event.Confirm c ∷ es) = lastGiven security day latest es
+lastGiven security day latest (event.Cash c ∷ es) = lastGiven security day latest es
+lastGiven security day latest (event.Close ∷ es) = lastGiven security (suc day) latest es
+
+-- that which they make of a new book
+abbrev pub latestBy : Opening → List Event → ℕ → LatestPrice
+latestBy opening es security = lastGiven security (firstDay opening) Never es
+
 -- "a credit is positive": the balance of an account
 unfoldable pub balance : Book → ℕ → ℤ
 balance b k = subℕ (getD (b .ledger .credits) k 0) (getD (b .ledger .debits) k 0)
 
 -- Unfolding this unfolds the whole book, for worked examples.
 unfoldable pub computing : Unit {0}
-unfolding along new keys units highest made netOf net netted due longOf longsOn takers share dealTo names taken takenBy lowered lowering fresh failing insert byPrice awarded unconfirmed confirmedAward credited debited posted charge buyInCharges pricedBy priced payment cashChargesBy cashCharges awardFines lateFines closeCharges dealt discharged auctionAwards handsOut charges amount done stepToday free reasons refusal next pieces quantity charged run handed allCharges acceptedEvents formed balance
+unfolding along new keys units highest made netOf net netted due longOf longsOn takers share dealTo names taken takenBy lowered lowering fresh failing insert byPrice awarded unconfirmed confirmedAward credited debited posted charge buyInCharges pricedBy priced payment cashChargesBy cashCharges awardFines lateFines closeCharges dealt discharged auctionAwards handsOut charges amount done stepToday free reasons refusal next pieces quantity charged run handed allCharges acceptedEvents formed lastGiven balance
 computing = tt

@@ -8,15 +8,18 @@ use lib.Dec.{eqb}
 use Rattle.laws.specs.Limits.{MEMBERS, MOST-QUANTITY, MOST-PRICE, MOST-NETTED}
 use Rattle.laws.specs.Lists.{All, only, sum}
 use Rattle.events.specs.declared.Trade.{Trade}
+use Rattle.events.specs.declared.Attempt.{Attempt}
 use Rattle.events.specs.declared.Offer.{Offer}
+use Rattle.events.specs.declared.Cash as asked
 use Rattle.events.specs.declared.Event.{Event}
 use Rattle.events.specs.declared.Event.the-variants as event
+use Rattle.plain.specs.declared.LatestPrice.the-variants.{Given}
 use Rattle.plain.specs.declared.Position.{Position}
 use Rattle.plain.specs.declared.Piece.{Piece}
 use Rattle.plain.specs.declared.Award.{Award}
 use Rattle.plain.specs.declared.Manner.{Manner}
 use Rattle.plain.specs.declared.Manner.the-variants.{Delivered, BoughtIn, Cash}
-use Rattle.plain.specs.Book.{Book, Auction, noPosition, positionOf, awardOf}
+use Rattle.plain.specs.Book.{Book, Auction, givenOn, noPosition, positionOf, awardOf, latestOf, latestPrice}
 use Rattle.plain.specs.Netting.{Key}
 use Rattle.plain.specs.Dealing.{manners, figure, due, longOf}
 use Rattle.plain.specs.Calls.{handsOut}
@@ -82,6 +85,15 @@ pub record DueLong (b : Book) (security n : ℕ) : Type 0 where
   pub long : positionOf b n .short ≡ false
   pub same : positionOf b n .security ≡ security
   pub is-due : due (b .day) (positionOf b n) ≡ true
+
+-- an attempt on position n, or its cash settlement
+pub data NeedsPrice : Event → ℕ → Type 0 where
+  attempted : (a : Attempt) → NeedsPrice (event.Attempt a) (a .position)
+  settled : (c : asked.Cash) → NeedsPrice (event.Cash c) (c .position)
+
+-- the latest price of a security was given today
+abbrev pub GivenToday : Book → ℕ → Type 0
+GivenToday b security = latestPrice b security ≡ Given (givenOn (b .day) (latestOf b security))
 
 -- the units that pieces take from position n as their long
 abbrev pub asLong : ℕ → List Piece → ℕ

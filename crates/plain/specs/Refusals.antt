@@ -1,8 +1,8 @@
--- Document 01, 'Why a call is turned down', 8 to 26: each reason over the values that it looks at, the reasons of each call in the order of the
--- paper's list, and what they say on the plain book. A reason is named after what turns the call down.
+-- Document 01, 'Why a call is turned down', 8 to 26, and document 02, 32: each reason over the values that it looks at, the reasons of each call
+-- in the order of the papers' list, and what they say on the plain book. A reason is named after what turns the call down.
 use Prim.Native.Nat.{ℕ, _+_, _-_}
 use mathlib.Core.List.{List, [], _∷_, _++_}
-use mathlib.Core.Bool.{Bool, not, _&&_}
+use mathlib.Core.Bool.{Bool, true, false, not, _&&_}
 use lib.ListN.{length}
 use lib.Dec.{ltb, leb, eqb}
 use Rattle.laws.specs.Asked.{within}
@@ -17,9 +17,11 @@ use Rattle.events.specs.declared.Price.{Price}
 use Rattle.events.specs.declared.Delivery.{Delivery}
 use Rattle.events.specs.declared.Offer.{Offer}
 use Rattle.events.specs.declared.Event.the-variants as event
+use Rattle.plain.specs.declared.LatestPrice.{LatestPrice}
+use Rattle.plain.specs.declared.LatestPrice.the-variants.{Never, Given}
 use Rattle.plain.specs.declared.Position.{Position}
 use Rattle.plain.specs.declared.Award.{Award}
-use Rattle.plain.specs.Book.{Book, positionOf, awardOf, classOf, latestOf}
+use Rattle.plain.specs.Book.{Book, positionOf, awardOf, classOf, latestPrice}
 use Rattle.plain.specs.Dealing.{due}
 use Rattle.plain.specs.Auction.{failing, unconfirmed}
 use Rattle.plain.specs.Calls.{Call, call}
@@ -96,9 +98,21 @@ auctionOnThis auction n = runsOn auction n ⇒ 18
 abbrev pub noAuctionOnThis : ℕ → ℕ → Reason
 noAuctionOnThis auction n = not (runsOn auction n) ⇒ 18
 
--- 19. "The security never had a price (attempt, cash)." Its latest price is 0 then.
-abbrev pub neverPriced : ℕ → Reason
-neverPriced latest = eqb latest 0 ⇒ 19
+-- 19. "The security never had a price (attempt, cash)."
+abbrev pub isNever : LatestPrice → Bool
+isNever Never = true
+isNever (Given latest) = false
+
+abbrev pub neverPriced : LatestPrice → Reason
+neverPriced latest = isNever latest ⇒ 19
+
+-- 32. "It refuses with 32, after 19, an attempt or cash whose latest price was given before today." (document 02, Slip 3)
+abbrev pub isGivenBefore : ℕ → LatestPrice → Bool
+isGivenBefore day Never = false
+isGivenBefore day (Given latest) = ltb (latest .day .0) day
+
+abbrev pub oldPrice : ℕ → LatestPrice → Reason
+oldPrice day latest = isGivenBefore day latest ⇒ 32
 
 -- 20. "Sixteen attempts were opened today, or one on this short." Of an attempt.
 abbrev pub attemptsFull : ℕ → Reason
@@ -170,23 +184,25 @@ deliveryReasons p day auction free d =
 unfoldable pub confirmReasons : Award → List Reason
 confirmReasons award = confirmedAlready award ∷ []
 
--- a cash settlement's after them: of its position, the step that today allows on it, and the latest price of its security
-unfoldable pub cashReasons : Position → Step → ℕ → List Reason
-cashReasons p today latest =
+-- a cash settlement's after them: of its position, the day, the step that today allows on the position, and the latest price of its security
+unfoldable pub cashReasons : Position → ℕ → Step → LatestPrice → List Reason
+cashReasons p day today latest =
     isLong p
     ∷ outsideWindow step.Cash today
     ∷ neverPriced latest
+    ∷ oldPrice day latest
     ∷ nothingOpen p
     ∷ []
 
--- an attempt's after 11: of its position, the step that today allows on it, the auction's position, the latest price of its security, how many
--- attempts were opened today, and whether one was on this position
-unfoldable pub attemptReasons : Position → Step → ℕ → ℕ → ℕ → Bool → List Reason
-attemptReasons p today auction latest attempts marked =
+-- an attempt's after 11: of its position, the day, the step that today allows on the position, the auction's position, the latest price of its
+-- security, how many attempts were opened today, and whether one was on this position
+unfoldable pub attemptReasons : Position → ℕ → Step → ℕ → LatestPrice → ℕ → Bool → List Reason
+attemptReasons p day today auction latest attempts marked =
     isLong p
     ∷ outsideWindow step.Attempt today
     ∷ auctionRuns auction
     ∷ neverPriced latest
+    ∷ oldPrice day latest
     ∷ attemptsFull attempts
     ∷ attemptedToday marked
     ∷ nothingOpen p
@@ -235,7 +251,7 @@ reasons b (call (event.Delivery d) sheet) =
 reasons b (call (event.Attempt a) sheet) =
     let p = positionOf b (a .position) in
     notThere (length (b .positions)) (a .position)
-    ∷ attemptReasons p (stepToday b p) (b .auction .position) (latestOf b (p .security)) (length (b .marks)) (some (λ n. eqb n (a .position)) (b .marks))
+    ∷ attemptReasons p (b .day) (stepToday b p) (b .auction .position) (latestPrice b (p .security)) (length (b .marks)) (some (λ n. eqb n (a .position)) (b .marks))
 reasons b (call (event.Offer o) sheet) =
     let fails = failing (b .day) (b .positions) (positionOf b (o .position) .security) (o .offerer) in
     offerReasons (length (b .positions)) (b .auction .position) o
@@ -246,7 +262,7 @@ reasons b (call (event.Confirm c) sheet) =
 reasons b (call (event.Cash c) sheet) =
     let p = positionOf b (c .position) in
     lookupReasons sheet (length (b .positions)) (c .position)
-    ++ cashReasons p (stepToday b p) (latestOf b (p .security))
+    ++ cashReasons p (b .day) (stepToday b p) (latestPrice b (p .security))
 reasons b (call event.Close sheet) = closeReasons (b .auction .position) (b .day)
 
 -- the number of the first reason that applies, else 0

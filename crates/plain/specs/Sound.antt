@@ -24,15 +24,17 @@ use Rattle.plain.specs.Invariants.{TradeFits, Fair, Rising, Whole, Untou
 
 -- Day, trades, prices and positions
 
-pub record PricesFit (prices : List Latest) : Type 0 where
+pub record PricesFit (day : ℕ) (prices : List Latest) : Type 0 where
   pub many : length prices ≡ SECURITIES
   pub small : All (λ p. p .price ≤ MOST-PRICE) prices
+  -- no price was given on a later day
+  pub days : All (λ p. p .day .0 ≤ day) prices
 
 pub record Standing (b : Book) : Type 0 where
   pub day : Within 1 LAST-DAY (b .day)
   pub trades : All (TradeFits (b .opening .register .count)) (b .trades)
   pub held : b .past + length (b .trades) ≤ TRADES
-  pub prices : PricesFit (b .prices)
+  pub prices : PricesFit (b .day) (b .prices)
   pub fair : All (Fair (b .opening .register .count) (b .day)) (b .positions)
   pub rising : Rising (b .positions)
   -- a trade makes at most two positions

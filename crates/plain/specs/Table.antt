@@ -1,4 +1,5 @@
--- The starred lines of document 01, 'Edges and a squeeze', and the player's example: one table of values by the definitions and values expected.
+-- The starred lines of document 01, 'Edges and a squeeze', the player's example, and edges of document 02: one table of values by the definitions
+-- and values expected.
 -- Every row holds, by computation.
 use Prim.Native.Nat.{ℕ, _+_}
 use native.Mathlib.Omega.{arith}
@@ -17,13 +18,14 @@ use Rattle.rules.specs.Charges.{roundedHalfUp, fee, cashFee, awardFine, lateFin
 use Rattle.register.specs.Isin.{isin}
 use Rattle.register.specs.Register.{registerRead}
 use Rattle.register.specs.Register as check
+use Rattle.plain.specs.declared.LatestPrice.the-variants.{Never, Given}
 use Rattle.plain.specs.declared.Position.{Position}
 use Rattle.plain.specs.declared.Piece.{Piece}
 use Rattle.plain.specs.declared.Manner.{Manner}
 use Rattle.plain.specs.declared.Manner.the-variants as manner
-use Rattle.plain.specs.Book.{Book}
-use Rattle.plain.specs.Histories.{run, handed, refusals, quantities, balance, computing}
-use Rattle.plain.specs.Worked.{xx, oneShareBytes, oneShare, squeeze, example, twoDays}
+use Rattle.plain.specs.Book.{Book, givenOn, latestPrice}
+use Rattle.plain.specs.Histories.{run, handed, allCharges, refusals, quantities, balance, computing}
+use Rattle.plain.specs.Worked.{xx, oneShareBytes, oneShare, squeeze, example, twoDays, oldPrices, allDelivered}
 
 -- a row: a value by the definitions, and the value expected
 pub record Row : Type 1 where
@@ -87,8 +89,8 @@ table =
     -- "30 bought in at 1,190 against 1,200: charge -300."
     ∷ (inCents (buyInCharge 30 1190 1200) is negℤ (pos 300))
     -- "Squeeze, class 1": the refusal 17 of day 2, the quantities, the pieces, and "Accounts 0 to 4"
-    ∷ (refusals oneShare squeeze is (replicate 4 0 ++ 17 ∷ replicate 16 0))
-    ∷ (quantities oneShare squeeze is (100 ∷ 50 ∷ 0 ∷ 0 ∷ 0 ∷ 0 ∷ 30 ∷ replicate 6 0 ++ 40 ∷ 30 ∷ 70 ∷ 30 ∷ 0 ∷ 0 ∷ 0 ∷ 90 ∷ []))
+    ∷ (refusals oneShare squeeze is (replicate 4 0 ++ 17 ∷ replicate 18 0))
+    ∷ (quantities oneShare squeeze is (100 ∷ 50 ∷ 0 ∷ 0 ∷ 0 ∷ 0 ∷ 30 ∷ replicate 7 0 ++ 40 ∷ 30 ∷ 70 ∷ 30 ∷ replicate 4 0 ++ 90 ∷ []))
     ∷ (handed oneShare squeeze
     is (piece 1 2 30 manner.Delivered 0 ∷ piece 1 2 30 manner.BoughtIn 0 ∷ piece 1 2 40 manner.Cash 88000 ∷ piece 1 3 50 manner.Cash 110000 ∷ []))
     ∷ (map (balance settled) (range 0 5) is (pos 126595 ∷ negℤ (pos 224595) ∷ pos 88000 ∷ pos 110000 ∷ negℤ (pos 100000) ∷ []))
@@ -102,8 +104,17 @@ table =
     ∷ (refusals oneShare twoDays is replicate 7 0)
     ∷ (handed oneShare twoDays
     is (piece 3 2 50 manner.Delivered 0 ∷ piece 1 2 50 manner.Delivered 0 ∷ piece 1 4 50 manner.Delivered 0 ∷ []))
+    -- "It refuses with 32, after 19, an attempt or cash whose latest price was given before today.": 19 without any price, 32 with one of the
+    -- day before. "Closes go on with the latest.": the late fines of 100 units at 1,100, twice, and at 1,200, twice
+    ∷ (refusals oneShare oldPrices is (replicate 8 0 ++ 19 ∷ 0 ∷ 0 ∷ 32 ∷ 0 ∷ 0 ∷ 0 ∷ 32 ∷ 0 ∷ []))
+    ∷ (map (λ c. c .cents) (allCharges oneShare oldPrices) is (11 ∷ 11 ∷ 12 ∷ 12 ∷ []))
+    -- "The lookup of the latest price shall also tell the day it was given"
+    ∷ (latestPrice oneShare 1 is Never)
+    ∷ (latestPrice (run oneShare oldPrices) 1 is Given (givenOn 10 1200))
+    -- nothing is open: 32 comes before 24
+    ∷ (refusals oneShare allDelivered is (replicate 13 0 ++ 32 ∷ 0 ∷ 24 ∷ []))
     ∷ []
 
 pub every-row : Holds table
 unfolding table shareStep recurringStep stepOn ceiling raised cashPrice roundedHalfUp fee cashFee awardFine lateFine buyInCharge inCents check.computing computing
-every-row = (refl, (refl, (refl, (refl, (λ i more. fee-above (4000000001 + more) (omega arith) i, (refl, (refl, (refl, (refl, (refl, (refl, (refl, (refl, (refl, (refl, (refl, (refl, (refl, (refl, (refl, (refl, (refl, (refl, (refl, (refl, (refl, (refl, (refl, (refl, tt)))))))))))))))))))))))))))))
+every-row = (refl, (refl, (refl, (refl, (λ i more. fee-above (4000000001 + more) (omega arith) i, (refl, (refl, (refl, (refl, (refl, (refl, (refl, (refl, (refl, (refl, (refl, (refl, (refl, (refl, (refl, (refl, (refl, (refl, (refl, (refl, (refl, (refl, (refl, (refl, (refl, (refl, (refl, (refl, (refl, tt))))))))))))))))))))))))))))))))))

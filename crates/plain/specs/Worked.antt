@@ -1,4 +1,4 @@
--- Document 01, 'Edges and a squeeze' and 'Event files and the player': the two worked histories as lists of calls on the plain book.
+-- Document 01, 'Edges and a squeeze' and 'Event files and the player', and document 02: worked histories as lists of calls on the plain book.
 use Prim.Native.Nat.{ℕ}
 use mathlib.Core.List.{List, [], _∷_, _++_}
 use lib.ListN.{replicate}
@@ -37,11 +37,18 @@ delivery q = deliveryOf 1 q
 abbrev offer : ℕ → ℕ → ℕ → Event
 offer member quantity price = event.Offer (record { position = 1; offerer = member; quantity = quantity; price = price })
 
+abbrev attempt : Event
+attempt = event.Attempt (record { position = 1 })
+
+abbrev cash : Event
+cash = event.Cash (record { position = 1 })
+
 abbrev closes : ℕ → List Event
 closes n = replicate n event.Close
 
 -- "day 1, member 1 sells 100 to 2 at 1,000 and 50 to 3 at 1,200; price 1,100. Day 2: delivery refused 17. Day 3: 30 delivered.
 -- Day 8: attempt; offers 40 at 1,300 (member 4), 30 at 1,250 (member 5); award 70; award 1 confirmed. Day 11: cash 90"
+-- document 02, Slip 3: "The squeeze of document 01 gains a price event of 1,100 as the first event of days 8 and 11, with the same sums."
 abbrev pub squeeze : List Call
 squeeze =
     callsOf
@@ -53,13 +60,15 @@ squeeze =
     ∷ event.Close
     ∷ delivery 30
     ∷ closes 5
-    ++ (event.Attempt (record { position = 1 })
+    ++ (price 1100
+    ∷ attempt
     ∷ offer 4 40 1300
     ∷ offer 5 30 1250
     ∷ event.Award (record { position = 1 })
     ∷ event.Confirm (record { award = 1 })
     ∷ closes 3
-    ++ event.Cash (record { position = 1 })
+    ++ price 1100
+    ∷ cash
     ∷ []))
 
 -- "member 1 sells to member 2 100 units of security 1 at 1,000; close; close; deliver 100 of position 1"
@@ -80,3 +89,36 @@ twoDays =
     ∷ deliveryOf 3 50
     ∷ deliveryOf 1 100
     ∷ [])
+
+-- prices of the day before. Member 1 sells 100 to 2, due on day 3. Day 8: an attempt without any price; price 1,100. Day 9: an attempt. Day 10:
+-- price 1,200. Day 11: cash
+abbrev pub oldPrices : List Call
+oldPrices =
+    callsOf
+    (trade 1 2 100 1000
+    ∷ closes 7
+    ++ (attempt
+    ∷ price 1100
+    ∷ event.Close
+    ∷ attempt
+    ∷ event.Close
+    ∷ price 1200
+    ∷ event.Close
+    ∷ cash
+    ∷ event.Close
+    ∷ []))
+
+-- nothing is open: all is delivered on day 3; on day 11 a cash settlement on a price of day 1, and another on one of day 11
+abbrev pub allDelivered : List Call
+allDelivered =
+    callsOf
+    (trade 1 2 100 1000
+    ∷ price 1100
+    ∷ event.Close
+    ∷ event.Close
+    ∷ delivery 100
+    ∷ closes 8
+    ++ (cash
+    ∷ price 1100
+    ∷ cash
+    ∷ []))

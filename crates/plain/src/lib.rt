@@ -8,9 +8,16 @@ pub struct Opening {
     pub register: Register,
 }
 
-// The latest price of a security, 0 where it never had one.
+// The latest price of a security and the day on which it was given; price 0 where it never had one.
 pub struct Latest {
     pub price: u32,
+    pub day: BusinessDay,
+}
+
+// What the lookup of a security's latest price answers.
+pub enum LatestPrice {
+    Never,
+    Given(Latest),
 }
 
 // A member's netted quantity of a security, short or long.

@@ -1,4 +1,5 @@
 pub mod Closing
 pub mod Lending
 pub mod Lines
+pub mod Reading
 pub mod Outcomes

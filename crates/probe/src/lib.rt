@@ -1,5 +1,5 @@
 // The static library for tests: what the last event of the player's input answers and prints, its call made on a lent sheet of pieces, after
-// more closes than a file has room for. No desk calls it. The exported functions have no `requires`.
+// more closes than a file has room for; and the latest price of a security, which the player does not print. No desk calls it. The exported functions have no `requires`.
 ghost use Prim.Native.Nat.{_-_, min};
 ghost use mathlib.Core.Path.{_≡_};
 ghost use lib.ListN.{length};
@@ -17,11 +17,14 @@ ghost use Rattle.replay.specs.Replay.{NewlyHeld, OpensAs};
 ghost use Rattle.report.specs.Pages.{Wrote};
 ghost use Rattle.transcript.specs.Playing.{BLOCK};
 ghost use Rattle.answers.specs.Packed as definition;
+ghost use Rattle.probe.specs.Latest.{priceNumber, latestFor};
 ghost use Rattle.probe.specs.Last.{afterCloses, lastEvent, beforeLast, LastAnswered, lastText, numberFor, quantityFor, linesFor};
 use book::Book;
 use calls::Core;
+use calls::PriceAnswer;
 use events::Event;
 use laws::PLACES;
+use plain::LatestPrice;
 use plain::Outcome;
 use plain::Piece;
 use sheet::Written;
@@ -215,4 +218,32 @@ pub extern "C" fn probe_last_lines(input: &[u8], page: &mut [u8]) -> u32
     let file = started.file;
     let core = started.core;
     last_lines(page, &input[file..], core) as u32
+}
+
+// A price and its day as one number, 0 where none was given.
+fn price_number(latest: LatestPrice) -> u64
+    ensures { λ r. ⌜ r ≡ priceNumber latest ⌝ }
+{
+    match latest {
+        LatestPrice::Never => 0,
+        LatestPrice::Given(given) => (given.price as u64) * 65536 + (given.day.0 as u64),
+    }
+}
+
+// What the book answers of a security's latest price after all events of a file: refusals 1 to 7 and 10, 0 where it never had one, else the
+// price times 65,536 and the day on which it was given.
+#[no_mangle]
+pub extern "C" fn probe_latest_price(register: &[u8], file: &[u8], security: u16) -> u64
+    ensures { λ r. ⌜ r ≡ latestFor (now (register .entry)) (now (file .entry)) security ⌝ }
+{
+    let replayed = replay::replay(register, file);
+    let number = replayed.number;
+    if number != 0 {
+        return number as u64;
+    }
+    let answer = book::latest_price(replayed.book, security);
+    match answer {
+        PriceAnswer::Found(latest) => price_number(latest),
+        PriceAnswer::Refused(refusal) => refusal as u64,
+    }
 }

@@ -1,12 +1,12 @@
 // Which number turns a call down, of the values that the call looks at: fields, numbers and single elements of the book.
-// Document 01, 'Why a call is turned down'.
+// Document 01, 'Why a call is turned down', and document 02.
 ghost use mathlib.Core.Path.{_≡_};
 ghost use Prim.Native.Nat.{_-_};
 ghost use lib.Dec.{eqb};
 ghost use Rattle.laws.specs.Asked.{within};
 ghost use Rattle.rules.specs.Windows.{stepOn};
 ghost use Rattle.laws.specs.Refusals.{first};
-ghost use Rattle.plain.specs.Refusals.{isMember, isQuantity, isPrice, runsOn};
+ghost use Rattle.plain.specs.Refusals.{isMember, isQuantity, isPrice, runsOn, isNever, isGivenBefore};
 ghost use Rattle.plain.specs.Refusals.{tradeReasons, priceReasons, lookupReasons, deliveryReasons, confirmReasons, cashReasons, attemptReasons, offerReasons, auctionReasons, awardReasons, closeReasons};
 use events::Delivery;
 use events::Offer;
@@ -22,12 +22,13 @@ use laws::OFFERS;
 use laws::PLACES;
 use laws::TRADES;
 use plain::Award;
+use plain::LatestPrice;
 use plain::Position;
 use rules::ATTEMPT;
 use rules::CASH;
 use rules::Step;
 
-// The numbers of document 01, 'Why a call is turned down'.
+// The numbers of document 01, 'Why a call is turned down', and of document 02, each after the number that it follows in the tests.
 pub const SMALL_SHEET: u8 = 8;
 
 pub const NO_MEMBER: u8 = 9;
@@ -51,6 +52,8 @@ pub const OUTSIDE_WINDOW: u8 = 17;
 pub const AUCTION: u8 = 18;
 
 pub const NO_PRICE: u8 = 19;
+
+pub const OLD_PRICE: u8 = 32;
 
 pub const ATTEMPTED: u8 = 20;
 
@@ -175,15 +178,36 @@ fn is_settled(unsettled: u32) -> bool
     unsettled == 0
 }
 
+// The security never had a price.
+fn is_never(latest: LatestPrice) -> bool
+    ensures { λ r. ⌜ r ≡ isNever latest ⌝ }
+{
+    match latest {
+        LatestPrice::Never => true,
+        LatestPrice::Given(_) => false,
+    }
+}
+
+// The latest price is of an earlier day than this one.
+fn is_given_before(day: BusinessDay, latest: LatestPrice) -> bool
+    ensures { λ r. ⌜ r ≡ isGivenBefore (day .0) latest ⌝ }
+{
+    match latest {
+        LatestPrice::Never => false,
+        LatestPrice::Given(given) => given.day.0 < day.0,
+    }
+}
+
 pub fn attempt_refusal(
     p: Position,
+    day: BusinessDay,
     today: Step,
     auction: u16,
-    latest: u32,
+    latest: LatestPrice,
     attempts: usize,
     marked: bool,
 ) -> u8
-    ensures { λ r. ⌜ r ≡ first (attemptReasons p today auction latest attempts marked) ⌝ }
+    ensures { λ r. ⌜ r ≡ first (attemptReasons p (day .0) today auction latest attempts marked) ⌝ }
 {
     if !p.short {
         return LONG;
@@ -194,8 +218,11 @@ pub fn attempt_refusal(
     if 0 < auction {
         return AUCTION;
     }
-    if latest == 0 {
+    if is_never(latest) {
         return NO_PRICE;
+    }
+    if is_given_before(day, latest) {
+        return OLD_PRICE;
     }
     if ATTEMPTS <= attempts {
         return ATTEMPTED;
@@ -306,8 +333,8 @@ pub fn confirm_refusal(award: Award) -> u8
     0
 }
 
-pub fn cash_refusal(p: Position, today: Step, latest: u32) -> u8
-    ensures { λ r. ⌜ r ≡ first (cashReasons p today latest) ⌝ }
+pub fn cash_refusal(p: Position, day: BusinessDay, today: Step, latest: LatestPrice) -> u8
+    ensures { λ r. ⌜ r ≡ first (cashReasons p (day .0) today latest) ⌝ }
 {
     if !p.short {
         return LONG;
@@ -315,8 +342,11 @@ pub fn cash_refusal(p: Position, today: Step, latest: u32) -> u8
     if rules::step_kind(today) != CASH {
         return OUTSIDE_WINDOW;
     }
-    if latest == 0 {
+    if is_never(latest) {
         return NO_PRICE;
+    }
+    if is_given_before(day, latest) {
+        return OLD_PRICE;
     }
     if is_settled(p.unsettled) {
         return NOT_ENOUGH;

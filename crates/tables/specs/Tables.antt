@@ -1,15 +1,18 @@
 -- What each table of the machine's book stands for in the plain book, and what its counts are bounded by.
 use Prim.Native.Nat.{ℕ, _≤_}
 use mathlib.Core.Path.{_≡_}
-use mathlib.Core.List.{List}
+use mathlib.Core.List.{List, zipWith}
 use lib.ListN.{length, take, drop}
 use Rattle.laws.specs.Limits.{TRADES, POSITIONS, PLACES, OFFERS, AWARDS, ATTEMPTS}
+use Rattle.laws.specs.declared.BusinessDay.{BusinessDay}
 use Rattle.events.specs.declared.Trade.{Trade}
+use Rattle.plain.specs.declared.Latest.{Latest}
 use Rattle.plain.specs.declared.Position.{Position}
 use Rattle.plain.specs.declared.Piece.{Piece}
 use Rattle.plain.specs.declared.Award.{Award}
 use Rattle.plain.specs.Book as plain
 use Rattle.tables.specs.declared.Pieces.{Pieces}
+use Rattle.tables.specs.declared.Prices.{Prices}
 use Rattle.tables.specs.declared.Auction.{Auction}
 use Rattle.tables.specs.declared.Marks.{Marks}
 
@@ -30,6 +33,14 @@ pub record Awards : Type 0 where
 
 unfoldable pub today : Trades → List Trade
 today t = drop (t .netted) (take (t .count) (t .items))
+
+-- a price with its day
+abbrev pub dated : ℕ → BusinessDay → Latest
+dated price day = record { price = price; day = day }
+
+-- the latest price of each security: the two columns joined place by place
+unfoldable pub prices : Prices → List Latest
+prices t = zipWith dated (t .latest) (t .days)
 
 unfoldable pub positions : Positions → List Position
 positions t = take (t .count) (t .items)

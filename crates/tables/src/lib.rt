@@ -3,15 +3,17 @@
 // (`rows`, `pieces`); what these stand for is said in specs/.
 use events::Offer;
 use laws::ATTEMPTS;
+use laws::BusinessDay;
 use laws::OFFERS;
 use laws::PLACES;
 use laws::SECURITIES;
-use plain::Latest;
 use plain::Piece;
 
-// The latest price of each security.
+// The latest price of each security, 0 where it never had one, and the day on which it was given: a column each, which are copied as a whole,
+// where an array of structs is copied field by field.
 pub struct Prices {
-    pub latest: [Latest; SECURITIES],
+    pub latest: [u32; SECURITIES],
+    pub days: [BusinessDay; SECURITIES],
 }
 
 // The auction on a short; position 0: none runs.

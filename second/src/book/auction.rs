@@ -11,9 +11,7 @@ impl Book {
         require(self.positions[short].side == Side::Short, Refusal::Long)?;
         require(self.allows(short, Step::Attempt), Refusal::Window)?;
         require(self.auction.is_none(), Refusal::Auction)?;
-        let security = self.security_of(short);
-        let latest = security.latest_price.ok_or(Refusal::NoPrice)?;
-        let ceiling = charges::ceiling(security.class, latest);
+        let ceiling = charges::ceiling(self.security_of(short).class, self.price_of_today(short)?);
         require(self.attempts.len() < MOST_ATTEMPTS && !self.attempts.contains(&short), Refusal::Attempts)?;
         require(self.positions[short].open() > 0, Refusal::NotFree)?;
         self.attempts.push(short);

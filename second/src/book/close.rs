@@ -1,7 +1,7 @@
-//! The close: fines, netting of the day's trades, the next day.
+//! The close: fines, netting of the day's trades, the next day. Fines go by the latest price, whatever its age.
 
 use super::netting::netted;
-use super::{number, require, Book, Cause, Charge, Side, HOUSE, LAST_DAY};
+use super::{number, require, Book, Cause, Charge, LatestPrice, Side, HOUSE, LAST_DAY};
 use crate::charges;
 use crate::refusal::Refusal;
 
@@ -21,7 +21,7 @@ impl Book {
     fn fine_awards(&mut self) {
         for (place, award) in self.awards.iter().enumerate().filter(|(_, award)| !award.confirmed) {
             let security = &self.securities[self.positions[award.short].security];
-            if let Some(latest) = security.latest_price {
+            if let Some(LatestPrice { price: latest, .. }) = security.latest_price {
                 let quantity = award.quantity;
                 let fine = charges::award_fine(security.class, u64::from(quantity) * u64::from(latest));
                 let [award_number, short] = [place, award.short].map(number);
@@ -33,7 +33,7 @@ impl Book {
 
     fn fine_late_shorts(&mut self) {
         for security in self.securities.iter().filter(|security| security.class == 1) {
-            let Some(latest) = security.latest_price else {
+            let Some(LatestPrice { price: latest, .. }) = security.latest_price else {
                 continue;
             };
             let shorts = security.shorts.iter().map(|&place| (place, &self.positions[place]));

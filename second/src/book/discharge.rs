@@ -48,7 +48,7 @@ impl Book {
         let short = self.position(short)?;
         require(self.positions[short].side == Side::Short, Refusal::Long)?;
         require(self.allows(short, Step::Cash), Refusal::Window)?;
-        let latest = self.security_of(short).latest_price.ok_or(Refusal::NoPrice)?;
+        let latest = self.price_of_today(short)?;
         let quantity = self.positions[short].open();
         require(quantity > 0, Refusal::NotFree)?;
 

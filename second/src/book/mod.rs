@@ -1,4 +1,5 @@
-//! The fails book: what it holds, and its nine calls. Each call checks in the order of the refusal numbers.
+//! The fails book: what it holds, and its nine calls. Each call checks in the order of the refusal numbers, but for 32,
+//! which comes after 19.
 
 mod auction;
 mod close;
@@ -38,10 +39,17 @@ pub struct Book {
 
 pub struct Security {
     pub class: u8,
-    pub latest_price: Option<u32>,
+    pub latest_price: Option<LatestPrice>,
     /// Its positions in order of number, which is also the order of their delivery days.
     pub shorts: Vec<usize>,
     pub longs: Vec<usize>,
+}
+
+/// The price that was given last, of whatever age, and the day on which it was given.
+#[derive(Clone, Copy, Debug, PartialEq, Eq)]
+pub struct LatestPrice {
+    pub price: u32,
+    pub day: u16,
 }
 
 #[derive(Clone, Copy)]
@@ -186,6 +194,11 @@ impl Book {
         &self.accounts.cents
     }
 
+    /// The latest price of a security by its number, if it ever had one.
+    pub fn latest_price(&self, security: u16) -> Result<Option<LatestPrice>, Refusal> {
+        self.security(security).map(|security| self.securities[security].latest_price)
+    }
+
     /// Keeps each charge from now on. The player's output has no use for them, so a book does not keep them unasked.
     pub fn keep_charges(&mut self) {
         self.accounts.charges = Some(Vec::new());
@@ -210,7 +223,7 @@ impl Book {
     fn price(&mut self, security: u16, price: u32) -> Result<u32, Refusal> {
         let security = self.security(security)?;
         require(is_price(price), Refusal::Price)?;
-        self.securities[security].latest_price = Some(price);
+        self.securities[security].latest_price = Some(LatestPrice { price, day: self.day });
         Ok(0)
     }
 
@@ -228,6 +241,13 @@ impl Book {
 
     fn security_of(&self, position: usize) -> &Security {
         &self.securities[self.positions[position].security]
+    }
+
+    /// The latest price of a short's security, for a step that goes by a price of today alone.
+    fn price_of_today(&self, short: usize) -> Result<u32, Refusal> {
+        let LatestPrice { price, day } = self.security_of(short).latest_price.ok_or(Refusal::NoPrice)?;
+        require(day == self.day, Refusal::OldPrice)?;
+        Ok(price)
     }
 }
 

@@ -51,6 +51,7 @@ pub fn exhaustive(tests: &mut Tests) {
             check_source(check, || text.to_string(), &Source::of_text(text.as_bytes()));
         }
     });
+    tests.check("html: the latest price of each security, with its day", &[], latest_prices);
     tests.check("html: each byte and each sign, escaped", &[], escaped_signs);
     tests.check("html: names that would be markup", &[], names);
     tests.check("html: ISINs that would be markup", &[], isins);
@@ -233,6 +234,23 @@ fn tables_fault(all: &[&Element]) -> Option<String> {
         _ => false,
     };
     all.iter().find(is_wrong).map(|element| format!("{}: {}", element.name, element.text()))
+}
+
+fn latest_prices(check: &mut Check) {
+    let text = "security 1 XX0000000002\nsecurity 2 XX0000000010\nsecurity 3 XX0000000028\n\
+                price 1 2,000\nprice 2 900\nclose\nprice 1 1,100\nclose 1,000\nprice 2 10\nprice 2 1,000,000\nclose\n";
+    let page = Source::of_text(text.as_bytes()).and_then(|source| page("a name", &source));
+    let root = page.and_then(|(_, page)| xml::read(&page));
+    let notes = root.map(|root| {
+        let notes = root.all().into_iter().filter(|element| element.attribute("class") == Some("note"));
+        notes.map(Element::text).filter(|note| note.starts_with("Class ")).collect::<Vec<_>>()
+    });
+    let wanted = [
+        "Class 1, share under the short selling regulation; latest price 1,100, given on day 2.",
+        "Class 2, other security; latest price 1,000,000, given on day 1,002.",
+        "Class 3, fixed income; no price yet.",
+    ];
+    same(check, || text.to_string(), notes, Ok(wanted.map(str::to_string).to_vec()));
 }
 
 fn escaped_signs(check: &mut Check) {

@@ -19,7 +19,7 @@ const MARGIN: usize = 40;
 const MANY_PIECES: usize = 400;
 
 pub fn exhaustive(tests: &mut Tests) {
-    tests.check("lines: known events on pages of each size", &[0, 11], known_events);
+    tests.check("lines: known events on pages of each size", &[0, 11, 19, 32], known_events);
     tests.check("lines: input cut off at each byte", &[0, 1, 5], |check| {
         let whole = input(1, &example());
         for length in 0..=whole.len() {
@@ -29,7 +29,7 @@ pub fn exhaustive(tests: &mut Tests) {
 }
 
 pub fn seeded(round: &mut Round) {
-    round.check("lines: histories that end in a discharge", &[0, 11, 16, 17, 24, 25], |check, random| {
+    round.check("lines: histories that end in a discharge", &[0, 11, 16, 17, 24, 25, 32], |check, random| {
         for _ in 0..1_200 {
             let input = histories::discharge_on_day(random, 0);
             let size = if random.one_in(10) { random.pick(&SIZES) } else { LEAST_PAGE };
@@ -56,14 +56,18 @@ pub fn seeded(round: &mut Round) {
 }
 
 fn known_events(check: &mut Check) {
-    let cash = "e 21 0 90\np 1 2 40 88000\np 1 3 50 110000\n";
-    let confirm = "e 17 0 30\np 1 2 30 0\n";
+    let cash = "e 23 0 90\np 1 2 40 88000\np 1 3 50 110000\n";
+    let confirm = "e 18 0 30\np 1 2 30 0\n";
+    let without_prices: Vec<Event> = squeeze().into_iter().filter(|event| event.kind() != 2).collect();
+    let on_old_price = [&squeeze()[..21], &[Event::Cash { short: 1 }]].concat();
     for size in SIZES {
         known(check, &input(1, &example()), size, "e 4 0 100\np 1 2 100 0\n");
         known(check, &input(1, &squeeze()), size, cash);
-        known(check, &input(1, &squeeze()[..17]), size, confirm);
-        known(check, &input(1, &squeeze()[..16]), size, "e 16 0 70\n");
+        known(check, &input(1, &squeeze()[..18]), size, confirm);
+        known(check, &input(1, &squeeze()[..17]), size, "e 17 0 70\n");
         known(check, &input(1, &squeeze()[..5]), size, "e 5 17 0\n");
+        known(check, &input(1, &without_prices), size, "e 20 19 0\n");
+        known(check, &input(1, &on_old_price), size, "e 22 32 0\n");
         known(check, &input(2, &bought_in_below()), size, "e 35 0 30\np 1 2 30 0\n");
         known(check, &input(1, &[Event::Cash { short: 1 }]), size, "e 1 11 0\n");
         known(check, &input(1, &[]), size, "");

@@ -12,6 +12,7 @@ pub mod page;
 pub mod play;
 pub mod play_page;
 pub mod player;
+pub mod prices;
 mod programs;
 pub mod register;
 pub mod sheets;

@@ -1,18 +1,21 @@
 //! The desk's page: the positions that a file leaves, one line each, written into a page that the caller lends.
 
-mod arguments;
+pub mod arguments;
 mod columns;
 mod known;
+
+pub use known::{faulty_files, faulty_registers};
 
 use super::player::{example, input, shown, squeeze};
 use crate::check::{Check, Round, Tests};
 use fails_book_tests::desk::{self, Answer};
 use fails_book_tests::histories;
 use fails_book_tests::random::Random;
-use second::book::{Book, SHEET_PLACES};
-use second::events::{self, Event};
+use second::book::Book;
+use second::events::Event;
 use second::page;
 use second::register::{self, Security};
+use second::transcript;
 use std::collections::BTreeSet;
 use std::fmt;
 
@@ -100,9 +103,9 @@ fn damaged_and_random_bytes(round: &mut Round) {
 }
 
 /// What a call reads.
-struct Given {
-    register: Vec<u8>,
-    file: Vec<u8>,
+pub struct Given {
+    pub register: Vec<u8>,
+    pub file: Vec<u8>,
 }
 
 impl Given {
@@ -112,7 +115,7 @@ impl Given {
     }
 
     /// A player's input, parted where the register's count says, as far as there are bytes.
-    fn parted(input: &[u8]) -> Given {
+    pub fn parted(input: &[u8]) -> Given {
         let count = input.first_chunk().map_or(0, |&word| usize::from(u16::from_le_bytes(word)));
         let (register, file) = input.split_at(register::length(count).min(input.len()));
         Given { register: register.to_vec(), file: file.to_vec() }
@@ -123,15 +126,8 @@ impl Given {
     }
 
     /// The securities and the book at the end, unless register or file is refused.
-    fn played(&self) -> Option<(Vec<Security>, Book)> {
-        let securities = register::read(&self.register).ok()?;
-        let events = events::read(&self.file).ok()?;
-        let mut book = Book::open(&securities);
-        for event in &events {
-            // A refused call changes nothing.
-            let _ = book.call(event, SHEET_PLACES);
-        }
-        Some((securities, book))
+    pub fn played(&self) -> Option<(Vec<Security>, Book)> {
+        transcript::played(&self.register, &self.file).ok()
     }
 
     /// Lengths of pages around that of the lines.
@@ -139,7 +135,7 @@ impl Given {
         sizes(self.played().map_or(0, |(_, book)| book.positions().len()))
     }
 
-    fn words(&self) -> String {
+    pub fn words(&self) -> String {
         let [register, file] = [&self.register, &self.file].map(Vec::len);
         format!("register of {register} bytes, file of {file}: {}", shown(&self.as_input()))
     }

@@ -62,7 +62,7 @@ fn played(check: &mut Check) {
     same(check, || "a binary file".to_string(), play([&binary], b""), Ended::well(SQUEEZE_LINES));
     same(check, || "--text -".to_string(), play(["--text", "-"], SQUEEZE.as_bytes()), Ended::well(SQUEEZE_WORDS));
     same(check, || "-".to_string(), play(["-"], &squeeze()), Ended::well(SQUEEZE_LINES));
-    let passes = Ended::well("1 security, 21 events: not refused by 1 to 7\n");
+    let passes = Ended::well("1 security, 23 events: not refused by 1 to 7\n");
     same(check, || "--check".to_string(), play(["--check", "-"], SQUEEZE.as_bytes()), passes);
     let refused = SQUEEZE_WORDS.lines().filter(|line| line.contains("refused")).map(|line| format!("{line}\n"));
     same(
@@ -244,7 +244,7 @@ fn several_files(check: &mut Check) {
     let bad = scratch.file("bad.txt", b"security 4 XX0000000002\n");
     let [good_name, bad_name] = [&good, &bad].map(|file| file.display().to_string());
     let found = play(["--check".as_ref(), good.as_path(), bad.as_path(), good.as_path()], b"");
-    let shown = format!("== {good_name}\n1 security, 21 events: not refused by 1 to 7\n");
+    let shown = format!("== {good_name}\n1 security, 23 events: not refused by 1 to 7\n");
     let wanted = Ended::refused(&bad_name, 2, "security 1, line 1: the class is 4 and not 1 to 3", &shown.repeat(2));
     same(check, || "--check".to_string(), found, wanted);
     let Ended { status, output, .. } = play(["--refused".as_ref(), good.as_path(), good.as_path()], b"");

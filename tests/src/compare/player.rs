@@ -13,8 +13,8 @@ use tools::player;
 
 /// What a file can meet: every refusal of register, file and call but for 8, as the player's sheets suffice, and 26, as
 /// no file has enough closes.
-const REACHABLE: [u32; 25] =
-    [0, 1, 2, 3, 4, 5, 6, 7, 9, 10, 11, 12, 13, 14, 15, 16, 17, 18, 19, 20, 21, 22, 23, 24, 25];
+const REACHABLE: [u32; 26] =
+    [0, 1, 2, 3, 4, 5, 6, 7, 9, 10, 11, 12, 13, 14, 15, 16, 17, 18, 19, 20, 21, 22, 23, 24, 25, 32];
 
 const HISTORIES: usize = 1_500;
 const LONG_HISTORIES: usize = 16;
@@ -26,14 +26,14 @@ pub fn exhaustive(tests: &mut Tests) {
     tests.check("player: document 01's example", &[0], |check| {
         known(check, &input(1, &example()), EXAMPLE.to_string());
     });
-    tests.check("player: document 01's squeeze", &[0, 17], |check| {
+    tests.check("player: document 01's squeeze, with document 02's prices", &[0, 17], |check| {
         known(check, &input(1, &squeeze()), SQUEEZE.to_string());
     });
     tests.check("player: bought in below the reference price", &[0], |check| {
-        let closes: String = (3..=31).map(|number| format!("e {number} 0 0\n")).collect();
+        let closes_and_price: String = (2..=31).map(|number| format!("e {number} 0 0\n")).collect();
         let auction = "e 32 0 0\ne 33 0 30\ne 34 0 30\ne 35 0 30\np 1 2 30 0\n";
         let end = "s 1 1 D 30 0 30 0 0\ns 2 2 R 30 0 30 0 0\na 0 -300\na 1 300\n";
-        known(check, &input(2, &bought_in_below()), format!("e 1 0 30\ne 2 0 0\n{closes}{auction}{end}"));
+        known(check, &input(2, &bought_in_below()), format!("e 1 0 30\n{closes_and_price}{auction}{end}"));
     });
     tests.check("player: input cut off at each byte", &[0, 1, 5], |check| {
         let whole = input(1, &example());
@@ -54,7 +54,7 @@ pub fn seeded(round: &mut Round) {
         // No short history holds 512 trades.
         compare(check, &histories::full_book(random));
     });
-    round.check("player: long histories", &[0, 11, 15, 17, 18, 24], |check, random| {
+    round.check("player: long histories", &[0, 11, 15, 17, 18, 24, 32], |check, random| {
         for which in 0..LONG_HISTORIES {
             let input = histories::long(random, which);
             survey.add(&input);
@@ -98,15 +98,17 @@ e 10 0 0
 e 11 0 0
 e 12 0 0
 e 13 0 0
-e 14 0 40
-e 15 0 30
-e 16 0 70
-e 17 0 30
+e 14 0 0
+e 15 0 40
+e 16 0 30
+e 17 0 70
+e 18 0 30
 p 1 2 30 0
-e 18 0 0
 e 19 0 0
 e 20 0 0
-e 21 0 90
+e 21 0 0
+e 22 0 0
+e 23 0 90
 p 1 2 40 88000
 p 1 3 50 110000
 s 1 1 D 150 30 30 90 0
@@ -121,12 +123,13 @@ a 4 -100000
 
 pub fn squeeze() -> Vec<Event> {
     let delivery = Event::Delivery { short: 1, quantity: 30 };
+    let price = Event::Price { security: 1, price: 1_100 };
     let closes = |days| vec![Event::Close; days];
     [
         vec![
             Event::Trade { security: 1, seller: 1, buyer: 2, quantity: 100, price: 1_000 },
             Event::Trade { security: 1, seller: 1, buyer: 3, quantity: 50, price: 1_200 },
-            Event::Price { security: 1, price: 1_100 },
+            price,
         ],
         closes(1),
         vec![delivery],
@@ -134,6 +137,7 @@ pub fn squeeze() -> Vec<Event> {
         vec![delivery],
         closes(5),
         vec![
+            price,
             Event::Attempt { short: 1 },
             Event::Offer { short: 1, offerer: 4, quantity: 40, price: 1_300 },
             Event::Offer { short: 1, offerer: 5, quantity: 30, price: 1_250 },
@@ -141,7 +145,7 @@ pub fn squeeze() -> Vec<Event> {
             Event::Confirm { award: 1 },
         ],
         closes(3),
-        vec![Event::Cash { short: 1 }],
+        vec![price, Event::Cash { short: 1 }],
     ]
     .concat()
 }
@@ -149,12 +153,10 @@ pub fn squeeze() -> Vec<Event> {
 /// In class 2, which has no late fines.
 pub fn bought_in_below() -> Vec<Event> {
     [
-        vec![
-            Event::Trade { security: 1, seller: 1, buyer: 2, quantity: 30, price: 1_200 },
-            Event::Price { security: 1, price: 1_100 },
-        ],
+        vec![Event::Trade { security: 1, seller: 1, buyer: 2, quantity: 30, price: 1_200 }],
         vec![Event::Close; 29],
         vec![
+            Event::Price { security: 1, price: 1_100 },
             Event::Attempt { short: 1 },
             Event::Offer { short: 1, offerer: 3, quantity: 30, price: 1_190 },
             Event::Award { short: 1 },
@@ -181,7 +183,7 @@ fn compare(check: &mut Check, input: &[u8]) {
 }
 
 /// An output known beforehand, wanted of the player and of the second implementation alike.
-fn known(check: &mut Check, input: &[u8], known: String) {
+pub fn known(check: &mut Check, input: &[u8], known: String) {
     let [player, second] =
         [output(input), transcript::transcript(input)].map(|bytes| String::from_utf8_lossy(&bytes).into_owned());
     count(check, known.as_bytes());

@@ -16,15 +16,17 @@ const CLOSES: [u32; 4] = [9_997, 9_998, 9_999, 20_000];
 
 const TRADE: Event = Event::Trade { security: 1, seller: 1, buyer: 2, quantity: 100, price: 1_000 };
 const DELIVERY: Event = Event::Delivery { short: 1, quantity: 60 };
+const PRICE: Event = Event::Price { security: 1, price: 1_100 };
 
 pub fn exhaustive(tests: &mut Tests) {
     tests.check("sheets: a delivery and what is no discharge", &[0, 8, 11], delivery_and_what_is_no_discharge);
     tests.check("sheets: day 9,999", &[0, 17, 26], last_business_day);
     tests.check("sheets: buy-in and cash settlement on day 9,999", &[0, 8, 18, 26], last_buy_in_and_cash_settlement);
+    tests.check("sheets: prices of days 9,998 and 9,999", &[0, 8, 32], prices_of_the_last_days);
 }
 
 pub fn seeded(round: &mut Round) {
-    round.check("sheets: histories with sheets of any length", &[0, 8, 11, 16, 17, 24, 25], |check, random| {
+    round.check("sheets: histories with sheets of any length", &[0, 8, 11, 16, 17, 24, 25, 32], |check, random| {
         for _ in 0..600 {
             let input = histories::discharge_on_day(random, 0);
             for sheet in SHEETS.into_iter().chain([random.below(2_048) as u32, random.below(65_536) as u32]) {
@@ -81,11 +83,10 @@ fn last_business_day(check: &mut Check) {
 }
 
 fn last_buy_in_and_cash_settlement(check: &mut Check) {
-    let price = Event::Price { security: 1, price: 1_100 };
     let offer = Event::Offer { short: 1, offerer: 3, quantity: 60, price: 1_200 };
     let [attempt, award] = [Event::Attempt { short: 1 }, Event::Award { short: 1 }];
     let confirm = Event::Confirm { award: 1 };
-    let late = |days: usize, steps: &[Event]| [&[TRADE, price], &vec![Event::Close; days][..], steps].concat();
+    let late = |days: usize, steps: &[Event]| [&[TRADE], &vec![Event::Close; days][..], &[PRICE], steps].concat();
     // Traded on day 9,992, the short is in its attempt window on the last day.
     known(check, &late(7, &[attempt]), 9_991, 1_023, Answer::accepted(0));
     known(check, &late(7, &[attempt, Event::Close]), 9_991, 1_024, Answer::refused(18));
@@ -96,6 +97,19 @@ fn last_buy_in_and_cash_settlement(check: &mut Check) {
     // Traded on day 9,989, it can be settled in cash.
     known(check, &late(10, &[Event::Cash { short: 1 }]), 9_988, 1_024, Answer::accepted(100));
     known(check, &late(10, &[Event::Cash { short: 1 }]), 9_988, 1_023, Answer::refused(8));
+}
+
+fn prices_of_the_last_days(check: &mut Check) {
+    let [attempt, cash] = [Event::Attempt { short: 1 }, Event::Cash { short: 1 }];
+    // A trade, so many closes, a price, a close and the step.
+    let steps = |days: usize, step| [&[TRADE], &vec![Event::Close; days][..], &[PRICE, Event::Close, step]].concat();
+    known(check, &steps(6, attempt), 9_991, 1_024, Answer::refused(32));
+    known(check, &steps(9, cash), 9_988, 1_024, Answer::refused(32));
+    // A short sheet is the first reason.
+    known(check, &steps(9, cash), 9_988, 1_023, Answer::refused(8));
+    // The close of day 9,999 is refused, so the price is still of today.
+    known(check, &steps(7, attempt), 9_991, 1_024, Answer::accepted(0));
+    known(check, &steps(10, cash), 9_988, 1_024, Answer::accepted(100));
 }
 
 fn second(input: &[u8], closes: u32, sheet: u32) -> Answer {

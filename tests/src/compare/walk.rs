@@ -107,7 +107,7 @@ const NOT_MET: [NotMet; 23] = [
     (
         SQUEEZE,
         &[("p 1 2 30 0", "p 1 2 30 0\np 1 2 30 0")],
-        "position 1: event 21 has a piece of 50 units, and what is open is 20",
+        "position 1: event 23 has a piece of 50 units, and what is open is 20",
     ),
     (
         SQUEEZE,
@@ -180,7 +180,7 @@ const NOT_MET: [NotMet; 23] = [
         "event 5: its pieces have 30 units, and it answers 0",
     ),
     (SQUEEZE, &[("e 4 0 0", "e 4 0 0\np 1 2 30 0")], "event 4: it has a piece, and discharges nothing"),
-    (SQUEEZE, &[("e 21 0 90", "e 22 0 90")], "event 22: the play has 21 events"),
+    (SQUEEZE, &[("e 23 0 90", "e 24 0 90")], "event 24: the play has 23 events"),
     (SQUEEZE, &[("e 1 0 100", "p 1 2 30 0\ne 1 0 100")], "a piece stands before the first event"),
 ];
 

@@ -73,7 +73,7 @@ pub fn seeded(round: &mut Round) {
 }
 
 /// Events on a register of one security of each class, and the line of words that the last refused one gets.
-const REASONS: [(&str, &str); 37] = [
+const REASONS: [(&str, &str); 40] = [
     ("trade 0 64 1 1 1", "trade: member 0 sells 1 unit of security 1 at 1 to member 64: refused, the seller 0 is not a member from 1 to 63, and the buyer 64 is not a member from 1 to 63 (9)"),
     ("trade 1 64 1 1 1", "trade: member 1 sells 1 unit of security 1 at 1 to member 64: refused, the buyer 64 is not a member from 1 to 63 (9)"),
     ("trade 1 2 4 1 1", "trade: member 1 sells 1 unit of security 4 at 1 to member 2: refused, security 4 is not registered; the register has 3 securities (10)"),
@@ -101,6 +101,9 @@ const REASONS: [(&str, &str); 37] = [
     ("OPEN\naward 3", "award on position 3: refused, the auction runs on position 1 and not on position 3 (18)"),
     ("DUE\noffer 1 3 1 1", "offer on position 1: member 3 offers 1 unit at 1: refused, no auction runs, so none on position 1 (18)"),
     ("DUE\nclose 5\nattempt 1", "attempt on position 1: refused, security 1 never had a price (19)"),
+    ("price 1 100\nDUE\nclose 5\nattempt 1", "attempt on position 1: refused, the latest price of security 1 is of day 1, and today is day 8 (32)"),
+    ("DUE\nclose 7\nprice 1 100\nclose\ncash 1", "cash settlement of position 1: refused, the latest price of security 1 is of day 10, and today is day 11 (32)"),
+    ("close 1000\ntrade 1 2 2 1 1\nprice 2 100\nclose 29\nattempt 1", "attempt on position 1: refused, the latest price of security 2 is of day 1,001, and today is day 1,030 (32)"),
     ("AUCTION\nattempt 1", "attempt on position 1: refused, an attempt was opened on position 1 today (20)"),
     ("SIXTEEN\nattempt 17", "attempt on position 17: refused, sixteen attempts were opened today (20)"),
     ("OPEN\noffer 1 1 1 1", "offer on position 1: member 1 offers 1 unit at 1: refused, member 1 is failing in security 1 (21)"),
@@ -108,8 +111,8 @@ const REASONS: [(&str, &str); 37] = [
     ("OPEN\nOFFERS\noffer 1 9 1 1", "offer on position 1: member 9 offers 1 unit at 1: refused, 16 offers are in (23)"),
     ("DUE\ndelivery 1 11", "delivery of 11 from position 1: refused, 10 units of position 1 are open (24)"),
     ("AUCTION\ndelivery 1 8", "delivery of 8 from position 1: refused, 7 units of position 1 are free: 10 open, of which awards that are not confirmed take 3 (24)"),
-    ("price 1 100\nDUE\ndelivery 1 10\nclose 5\nattempt 1", "attempt on position 1: refused, nothing of position 1 is open (24)"),
-    ("price 1 100\nDUE\ndelivery 1 10\nclose 8\ncash 1", "cash settlement of position 1: refused, nothing of position 1 is open (24)"),
+    ("DUE\ndelivery 1 10\nclose 5\nprice 1 100\nattempt 1", "attempt on position 1: refused, nothing of position 1 is open (24)"),
+    ("DUE\ndelivery 1 10\nclose 8\nprice 1 100\ncash 1", "cash settlement of position 1: refused, nothing of position 1 is open (24)"),
     ("AUCTION\nconfirm 1\nconfirm 1", "confirmation of award 1: refused, award 1 is confirmed already (25)"),
 ];
 
@@ -118,7 +121,7 @@ const REGISTER: &str = "security 1 XX0000000002\nsecurity 2 XX0000000010\nsecuri
 /// The words in capitals of `REASONS` stand for the events that lead to a state.
 fn events_of(line: &str) -> String {
     let due = "trade 1 2 1 10 100\nclose\nclose";
-    let open = "price 1 100\ntrade 1 2 1 10 100\ntrade 3 4 1 10 100\nclose\nclose 6\nattempt 1";
+    let open = "trade 1 2 1 10 100\ntrade 3 4 1 10 100\nclose\nclose 6\nprice 1 100\nattempt 1";
     match line {
         "DUE" => due.to_string(),
         "OPEN" => open.to_string(),
@@ -128,7 +131,7 @@ fn events_of(line: &str) -> String {
         "SIXTEEN" => {
             let trades: Vec<String> = (1..18).map(|seller| format!("trade {seller} 20 1 1 1")).collect();
             let attempts: Vec<String> = (1..17).map(|short| format!("attempt {short}\naward {short}")).collect();
-            format!("price 1 100\n{}\nclose 7\n{}", trades.join("\n"), attempts.join("\n"))
+            format!("{}\nclose 7\nprice 1 100\n{}", trades.join("\n"), attempts.join("\n"))
         }
         event => event.to_string(),
     }
@@ -145,13 +148,12 @@ fn last_refusal(events: &str) -> Result<String, String> {
     Ok(last.split_once(": ").ok_or("a line has a place")?.1.to_string())
 }
 
-/// Singular forms, a credit, class 3, and an account without a charge.
-fn known_lines(check: &mut Check) {
-    let text = "\
+/// Events of class 3 with single units.
+const SINGLE_UNITS: &str = "\
 security 3 XX0000000002
-price 1 100
 trade 1 2 1 1 99
 close 29
+price 1 100
 attempt 1
 offer 1 3 1 98
 award 1
@@ -159,18 +161,22 @@ confirm 1
 trade 1 2 1 1 101
 trade 4 5 1 1 1
 close 32
+price 1 100
 cash 3
 attempt 5
 ";
-    let output = Source::of_text(text.as_bytes()).map(|source| transcript::transcript(&source.bytes));
-    let words = output.and_then(|output| words_of(text, &output)).unwrap_or_else(|wrong| wrong);
+
+/// Singular forms, a credit, class 3, and an account without a charge.
+fn known_lines(check: &mut Check) {
+    let output = Source::of_text(SINGLE_UNITS.as_bytes()).map(|source| transcript::transcript(&source.bytes));
+    let words = output.and_then(|output| words_of(SINGLE_UNITS, &output)).unwrap_or_else(|wrong| wrong);
     let lines = [
-        "2. day 1, line 3: trade: member 1 sells 1 unit of security 1 at 99 to member 2: accepted",
+        "1. day 1, line 2: trade: member 1 sells 1 unit of security 1 at 99 to member 2: accepted",
         "   the ceiling is 103",
         "   award 1: 1 unit of member 3 at 98",
         "35. day 30, line 8: confirmation of award 1: 1 unit bought in",
         "   buy-in difference: the house pays member 1 1 cent: 1 unit of award 1 times (its price 98 minus reference price 99 of position 1)",
-        "70. day 62, line 12: cash settlement of position 3: 1 unit",
+        "71. day 62, line 13: cash settlement of position 3: 1 unit",
         "   1 unit from position 3 (member 1) to position 4 (member 2) for 400 cents",
         "   cash settlement: member 1 pays member 2 400 cents: 1 unit times 400, the highest of reference price 101 of position 3, reference price 101 of position 4 and the latest price 100 plus 300",
         "position 3: member 1, short: 1 netted, 0 delivered, 0 bought in, 1 settled in cash, 0 open",
@@ -227,7 +233,7 @@ fn other_outputs(check: &mut Check) {
     }
     let (_, text, output, _) = EXAMPLES[1];
     let output = output.replacen("a 1 -224595\n", "", 1);
-    let message = r#"output line 30: the player has "a 2 88000\n", and the second implementation "a 1 -224595\n""#;
+    let message = r#"output line 32: the player has "a 2 88000\n", and the second implementation "a 1 -224595\n""#;
     same(check, || output.clone(), words_of(text, output.as_bytes()), Err(message.to_string()));
 }
 

@@ -1,11 +1,14 @@
 //! Events that the book should turn down, and events with fields of any value.
 
-use super::fitting::number;
+use super::fitting::{age_of_price, number};
 use super::History;
 use crate::random::Random;
 use second::book::{Book, Side, GREATEST_PRICE, GREATEST_QUANTITY, MEMBERS};
 use second::events::Event;
 use second::windows::Step;
+
+/// The refusals that depend on the state of the book.
+const BY_STATE: [u8; 13] = [14, 15, 16, 17, 18, 19, 20, 21, 22, 23, 24, 25, 32];
 
 /// An event of the kind, whose fields have any value.
 pub fn random_event(random: &mut Random, kind: u8) -> Event {
@@ -58,7 +61,7 @@ impl History<'_> {
 
     /// An event with good fields that the state of the book forbids, by the number of a refusal to aim at.
     fn against_state(&mut self) -> Option<Event> {
-        let position = match self.random.between(14, 25) {
+        let position = match self.random.pick(&BY_STATE) {
             14 => return Some(self.trade_with_oneself()),
             16 => self.pick_position(|book, at| book.positions[at].side == Side::Long),
             17 => self.pick_short(|book, at| !book.positions[at].is_due(book.day)),
@@ -69,6 +72,7 @@ impl History<'_> {
             22 => return self.offer_above_ceiling(),
             24 => return self.beyond_free(),
             25 => return self.second_confirmation(),
+            32 => return self.step_on_old_price(),
             _ => self.pick_short(|_, _| true),
         };
         position.map(|at| self.step_on(at))
@@ -96,6 +100,27 @@ impl History<'_> {
             1 => Event::Attempt { short },
             _ => Event::Cash { short },
         }
+    }
+
+    /// The attempt or cash settlement that the short's window allows today.
+    fn step_in_window(&self, position: usize) -> Event {
+        let short = number(position);
+        match self.book.allows(position, Step::Attempt) {
+            true => Event::Attempt { short },
+            false => Event::Cash { short },
+        }
+    }
+
+    /// A step on a price of an earlier day, at times with nothing open, which is a later reason.
+    fn step_on_old_price(&mut self) -> Option<Event> {
+        let is_old =
+            |book: &Book, at: usize| has_window(book, at) && age_of_price(book, at).is_some_and(|days| days > 0);
+        let empty = self.pick_short(|book, at| is_old(book, at) && book.positions[at].open() == 0);
+        let at = match (empty, self.random.one_in(2)) {
+            (Some(at), true) => at,
+            _ => self.pick_short(is_old)?,
+        };
+        Some(self.step_in_window(at))
     }
 
     /// What a running auction forbids, or what needs one that does not run.
@@ -139,11 +164,15 @@ impl History<'_> {
         Some(Event::Offer { short: number(short), offerer, quantity: self.quantity(), price })
     }
 
-    /// A delivery of more than is free, or a step on a short with nothing open.
+    /// A delivery of more than is free, or a step on a short with nothing open, most often on a price of today.
     fn beyond_free(&mut self) -> Option<Event> {
         let empty = self.pick_short(|book, at| book.positions[at].open() == 0 && has_window(book, at));
         if let (Some(at), true) = (empty, self.random.one_in(2)) {
-            return Some(self.step_on(at));
+            let event = if self.random.one_in(3) { self.step_on(at) } else { self.step_in_window(at) };
+            if !self.random.one_in(4) {
+                self.price_for(&event);
+            }
+            return Some(event);
         }
         let awarded = self.pick_short(|book, at| book.free(at) < book.positions[at].open());
         if let Some(at) = awarded {
@@ -225,5 +254,5 @@ fn has_window(book: &Book, short: usize) -> bool {
 }
 
 fn is_unpriced(book: &Book, position: usize) -> bool {
-    book.securities[book.positions[position].security].latest_price.is_none()
+    age_of_price(book, position).is_none()
 }

@@ -32,6 +32,11 @@ impl History<'_> {
 
     pub(super) fn fitting_price(&mut self) -> Option<Event> {
         let security = self.random.below(self.register.len());
+        self.price_of(security)
+    }
+
+    /// A price of the security, unless it is to get none.
+    pub(super) fn price_of(&mut self, security: usize) -> Option<Event> {
         if self.unpriced == Some(security) {
             return None;
         }
@@ -53,12 +58,22 @@ impl History<'_> {
         Some(Event::Delivery { short: number(at), quantity })
     }
 
+    /// An attempt that fits once its security has a price of today; the latest may be older.
     pub(super) fn fitting_attempt(&mut self) -> Option<Event> {
+        self.attempt_on(|_| true)
+    }
+
+    pub(super) fn attempt_on_price_of_today(&mut self) -> Option<Event> {
+        self.attempt_on(|days| days == 0)
+    }
+
+    /// An attempt on a short of whose security the latest price was given so many days ago.
+    fn attempt_on(&mut self, fits: fn(u16) -> bool) -> Option<Event> {
         if self.book.auction.is_some() || self.book.attempts.len() == MOST_ATTEMPTS {
             return None;
         }
         let at = self.pick_short(|book, at| {
-            let priced = book.securities[book.positions[at].security].latest_price.is_some();
+            let priced = age_of_price(book, at).is_some_and(fits);
             let open = book.positions[at].open() > 0;
             priced && open && book.allows(at, Step::Attempt) && !book.attempts.contains(&at)
         })?;
@@ -116,9 +131,10 @@ impl History<'_> {
         Some(Event::Confirm { award: number(self.random.pick(&awards)) })
     }
 
+    /// A cash settlement that fits once its security has a price of today; the latest may be older.
     pub(super) fn fitting_cash(&mut self) -> Option<Event> {
         let at = self.pick_short(|book, at| {
-            let priced = book.securities[book.positions[at].security].latest_price.is_some();
+            let priced = age_of_price(book, at).is_some();
             priced && book.positions[at].open() > 0 && book.allows(at, Step::Cash)
         })?;
         Some(Event::Cash { short: number(at) })
@@ -144,7 +160,7 @@ impl History<'_> {
     }
 
     pub(super) fn price_near_latest(&mut self, security: usize) -> u32 {
-        let latest = self.book.securities[security].latest_price.unwrap_or(1_000);
+        let latest = self.book.securities[security].latest_price.map_or(1_000, |latest| latest.price);
         let price = match self.random.below(8) {
             0 => self.random.pick(&[1, 2, 101, 1_000, 20_000, GREATEST_PRICE - 1, GREATEST_PRICE]),
             1 => 2 * latest,
@@ -153,6 +169,12 @@ impl History<'_> {
         };
         price.clamp(1, GREATEST_PRICE)
     }
+}
+
+/// How many days ago the latest price of a position's security was given, if it ever had one.
+pub(super) fn age_of_price(book: &Book, position: usize) -> Option<u16> {
+    let latest = book.securities[book.positions[position].security].latest_price?;
+    Some(book.day - latest.day)
 }
 
 /// The number of a security, position or award at a place.

@@ -1,5 +1,6 @@
 //! A market: members trade for some days, and what is due is delivered, bought in, settled in cash or left.
 
+use super::fitting::age_of_price;
 use super::History;
 use second::book::MOST_OFFERS;
 use second::events::Event;
@@ -9,9 +10,9 @@ const STEPS: [fn(&mut History); 8] = [
     |history| history.try_to_play(History::fitting_trade),
     |history| history.try_to_play(History::fitting_price),
     |history| history.try_to_play(History::fitting_delivery),
-    |history| history.try_to_play(History::fitting_attempt),
+    |history| history.try_step(History::fitting_attempt),
     |history| history.confirm(),
-    |history| history.try_to_play(History::fitting_cash),
+    |history| history.try_step(History::fitting_cash),
     |history| history.play(Event::Close),
     |history| history.wait_for_a_window(),
 ];
@@ -98,7 +99,9 @@ impl History<'_> {
             }
             self.play(Event::Close);
         }
-        self.try_to_play(History::fitting_attempt);
+        if let Some(attempt) = self.fitting_attempt() {
+            self.play_on_price_of_today(attempt);
+        }
         for _ in 0..self.random.between(1, 4) {
             self.try_to_play(History::fitting_offer);
         }
@@ -124,6 +127,39 @@ impl History<'_> {
         if let (Some(at), None) = (short, &self.book.auction) {
             let day = self.book.positions[at].delivery_day + self.random.pick(&TURNS);
             self.close(day.saturating_sub(self.book.day));
+        }
+    }
+
+    /// An attempt or a cash settlement, most often on a price of today, else on the latest, whatever its age.
+    pub(super) fn try_step(&mut self, fitting: fn(&mut Self) -> Option<Event>) {
+        if let Some(event) = fitting(self) {
+            match self.random.below(6) {
+                0 => self.play(event),
+                _ => self.play_on_price_of_today(event),
+            }
+        }
+    }
+
+    pub(super) fn play_on_price_of_today(&mut self, event: Event) {
+        self.price_for(&event);
+        self.play(event);
+    }
+
+    /// Gives the security of an attempt or a cash settlement a price of today unless it has one; at times one more, so
+    /// that the later of two counts.
+    pub(super) fn price_for(&mut self, event: &Event) {
+        let (Event::Attempt { short } | Event::Cash { short }) = *event else {
+            return;
+        };
+        let Some(at) = usize::from(short).checked_sub(1).filter(|&at| at < self.book.positions.len()) else {
+            return;
+        };
+        let needed = usize::from(age_of_price(&self.book, at) != Some(0));
+        let more = usize::from(self.random.one_in(8));
+        for _ in 0..needed + more {
+            if let Some(price) = self.price_of(self.book.positions[at].security) {
+                self.play(price);
+            }
         }
     }
 

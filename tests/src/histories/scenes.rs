@@ -59,10 +59,10 @@ pub fn full_book_in_cash(random: &mut Random) -> Vec<u8> {
             history.play(Event::Trade { security: number(security), seller, buyer, quantity, price: 1_000 });
         }
     }
-    for security in 0..SECURITIES {
-        history.play(Event::Price { security: number(security), price: 1_100 });
-    }
+    // The late fines on the way go by the prices of day 1, and a cash settlement goes by a price of its day.
+    history.price_all(1_100);
     history.close(2 + 8);
+    history.price_all(1_100);
     // Positions are numbered by member, so member 1, with the largest shorts, comes first.
     for at in 0..MOST_TRADES {
         history.play(Event::Cash { short: number(at) });
@@ -105,6 +105,10 @@ pub fn discharge_on_day(random: &mut Random, closes: u32) -> Vec<u8> {
         _ => Some(history.contrary()),
     };
     let event = event.unwrap_or(Event::Close);
+    // A cash settlement in its window is refused on an old price, and accepted on one of today.
+    if history.random.one_in(2) {
+        history.price_for(&event);
+    }
     history.play(event);
     history.input()
 }
@@ -147,26 +151,22 @@ fn random_fields(random: &mut Random) -> Vec<u8> {
     history.input()
 }
 
-/// More shorts in their attempt window on one day than may be attempted, some of them without a price.
+/// More shorts in their attempt window on one day than may be attempted, some of them without a price or with an old
+/// one.
 fn many_attempts(random: &mut Random) -> Vec<u8> {
     let class = random.between(1, 3) as u8;
-    let register = with_classes(random, &[class; 3]);
+    let register = with_classes(random, &[class; 4]);
     let mut history = History::new(random, register, 400);
     history.unpriced = Some(2);
     let sellers = history.random.between(MOST_ATTEMPTS + 4, 35) as u8;
     for seller in 1..=sellers {
-        let security = history.random.pick(&[1, 1, 1, 2, 2, 2, 2, 3]);
+        let security = history.random.pick(&[1, 1, 1, 1, 2, 2, 2, 2, 3, 4]);
         let (quantity, price) = (history.quantity(), history.price_near_latest(0));
         history.play(Event::Trade { security, seller, buyer: MEMBERS as u8, quantity, price });
     }
-    for security in [1, 2] {
-        let price = history.price_near_latest(0);
-        history.play(Event::Price { security, price });
-    }
-    let days = if class == 1 { history.random.between(5, 7) } else { history.random.pick(&[27, 37]) };
-    history.close(2 + days as u16);
+    history.close_to_attempts(class);
     for _ in 0..MOST_ATTEMPTS {
-        history.try_to_play(History::fitting_attempt);
+        history.try_to_play(History::attempt_on_price_of_today);
         match history.random.below(8) {
             0 => history.fill_auction(),
             offers => (0..offers / 2).for_each(|_| history.try_to_play(History::fitting_offer)),
@@ -181,6 +181,30 @@ fn many_attempts(random: &mut Random) -> Vec<u8> {
     }
     history.run_market();
     history.input()
+}
+
+impl History<'_> {
+    /// A price for each security.
+    fn price_all(&mut self, price: u32) {
+        for security in 0..self.register.len() {
+            self.play(Event::Price { security: number(security), price });
+        }
+    }
+
+    /// Closes to a day on which the shorts of day 1 may be attempted. Securities 1, 2 and 4 get a price on an earlier
+    /// day, 1 and 2 another on this one.
+    fn close_to_attempts(&mut self, class: u8) {
+        let r = if class == 1 { self.random.between(5, 7) } else { self.random.pick(&[27, 37]) };
+        let closes = 2 + r as u16;
+        let age = self.random.pick(&[1, 2, closes]);
+        for (days, securities) in [(closes - age, &[0, 1, 3][..]), (age, &[0, 1][..])] {
+            self.close(days);
+            for &security in securities {
+                let price = self.price_near_latest(security);
+                self.play(Event::Price { security: number(security), price });
+            }
+        }
+    }
 }
 
 /// One member sells to many in one security over several days, another sells a large quantity last: its discharge is
@@ -207,7 +231,12 @@ fn many_pieces(random: &mut Random, trades: usize) -> Vec<u8> {
     if let Some(at) = large {
         let delivered = history.random.between(0, trades / 5) as u32;
         history.play(Event::Delivery { short: number(at), quantity: delivered });
-        history.play(Event::Cash { short: number(at) });
+        let cash = Event::Cash { short: number(at) };
+        if history.random.one_in(2) {
+            // Refused, since the price is an old one.
+            history.play(cash);
+        }
+        history.play_on_price_of_today(cash);
     }
     history.limit = history.limit.min(history.events.len() + 100);
     history.run_market();
@@ -229,7 +258,7 @@ fn waiting(random: &mut Random, limit: usize) -> Vec<u8> {
     }
     history.close(2 + 27);
     for _ in 0..history.random.below(3) {
-        history.try_to_play(History::fitting_attempt);
+        history.try_step(History::fitting_attempt);
         history.try_to_play(History::fitting_offer);
         history.try_to_play(History::fitting_award);
         history.close(10);

@@ -1,6 +1,6 @@
 //! Counts the states that histories reach, so that a comparison can want each of them.
 
-use second::book::{Answer, Auction, Award, Book, Piece, Position, Side, MOST_ATTEMPTS, SHEET_PLACES};
+use second::book::{Answer, Auction, Award, Book, LatestPrice, Piece, Position, Side, MOST_ATTEMPTS, SHEET_PLACES};
 use second::charges;
 use second::events::{Event, MOST_EVENTS};
 use second::refusal::Refusal;
@@ -67,7 +67,27 @@ states! {
     NettedToNothing "a member that bought what it sold on one day",
     NettedInPart "a member that bought and sold different quantities on one day",
     MostPositions "a book of 1,024 positions",
+    TwoPrices "two prices of a security on one day",
+    AttemptAfterOlder "an attempt on a price of today after one of an earlier day",
+    CashAfterOlder "a cash settlement on a price of today after one of an earlier day",
+    AttemptOnSecond "an attempt on the second of two different prices of today",
+    CashOnSecond "a cash settlement on the second of two different prices of today",
+    AttemptYesterday "an attempt refused on a price of yesterday",
+    CashYesterday "a cash settlement refused on a price of yesterday",
+    AttemptLongAgo "an attempt refused on a price of ten days ago or more",
+    CashLongAgo "a cash settlement refused on a price of ten days ago or more",
+    SeventeenthOld "an attempt refused on an old price after sixteen attempts",
+    SeventeenthToday "an attempt on a price of today refused after sixteen attempts",
+    SecondAttempt "a second attempt on a short refused",
+    NothingOpenOldAttempt "an attempt refused on an old price where nothing is open",
+    NothingOpenOldCash "a cash settlement refused on an old price where nothing is open",
+    NothingOpenAttempt "an attempt on a price of today refused because nothing is open",
+    NothingOpenCash "a cash settlement on a price of today refused because nothing is open",
+    LateOnOld "a late short fined by a price of an earlier day",
 }
+
+/// The prices that a history has given so far, by security.
+type Prices = Vec<Vec<LatestPrice>>;
 
 impl Default for Survey {
     fn default() -> Survey {
@@ -87,8 +107,9 @@ impl Survey {
         };
         self.reach_if(events.is_empty(), State::NoEvents);
         self.reach_if(events.len() == MOST_EVENTS, State::MostEvents);
+        let mut prices = vec![Vec::new(); book.securities.len()];
         for event in &events {
-            self.call(&mut book, event);
+            self.call(&mut book, &mut prices, event);
         }
         self.reach_if(book.positions.len() == 1_024, State::MostPositions);
     }
@@ -97,37 +118,93 @@ impl Survey {
         self.times[state as usize] += u64::from(holds);
     }
 
-    fn call(&mut self, book: &mut Book, event: &Event) {
+    fn call(&mut self, book: &mut Book, prices: &mut Prices, event: &Event) {
         // What the call is about to change.
         match event {
             Event::Award { short } => self.award(book, usize::from(*short)),
             Event::Close if book.auction.is_none() => self.close(book),
             _ => {}
         }
-        let result = book.call(event, SHEET_PLACES);
-        match (*event, &result) {
-            (Event::Delivery { short, quantity }, Err(Refusal::NotFree)) => {
-                let open = position(book, short).open();
-                self.reach_if(quantity <= open, State::AwardedUnits);
+        match book.call(event, SHEET_PLACES) {
+            Ok(answer) => self.accepted(book, prices, event, &answer),
+            Err(refusal) => self.refused(book, event, refusal),
+        }
+    }
+
+    fn accepted(&mut self, book: &Book, prices: &mut Prices, event: &Event, answer: &Answer) {
+        match *event {
+            Event::Price { security, price } => {
+                let prices = &mut prices[usize::from(security) - 1];
+                self.reach_if(prices.last().is_some_and(|latest| latest.day == book.day), State::TwoPrices);
+                prices.push(LatestPrice { price, day: book.day });
             }
-            (Event::Delivery { short, .. }, Ok(answer)) => {
+            Event::Delivery { short, .. } => {
                 self.reach_if(position(book, short).open() > 0, State::PartDelivery);
-                self.pieces(book, answer);
             }
-            (Event::Attempt { short }, Ok(_)) => self.attempt(book, position(book, short)),
-            (Event::Confirm { award }, Ok(answer)) => {
+            Event::Attempt { short } => {
+                let short = position(book, short);
+                self.attempt(book, short);
+                self.on_price_of_today(&prices[short.security], [State::AttemptAfterOlder, State::AttemptOnSecond]);
+            }
+            Event::Confirm { award } => {
                 let award = &book.awards[usize::from(award) - 1];
                 let reference = book.positions[award.short].reference_price;
                 self.reach_if(award.price > reference, State::Dearer);
                 self.reach_if(award.price < reference, State::Cheaper);
-                self.pieces(book, answer);
             }
-            (Event::Cash { short }, Ok(answer)) => {
-                self.cash(book, position(book, short), answer);
-                self.pieces(book, answer);
+            Event::Cash { short } => {
+                let short = position(book, short);
+                self.cash(book, short, answer);
+                self.on_price_of_today(&prices[short.security], [State::CashAfterOlder, State::CashOnSecond]);
             }
             _ => {}
         }
+        self.pieces(book, answer);
+    }
+
+    /// An accepted step, by the prices of its security, of which the last is today's.
+    fn on_price_of_today(&mut self, prices: &[LatestPrice], [after_older, on_second]: [State; 2]) {
+        let Some((latest, earlier)) = prices.split_last() else {
+            return;
+        };
+        self.reach_if(earlier.iter().any(|price| price.day < latest.day), after_older);
+        let first_of_today = earlier.last().filter(|price| price.day == latest.day);
+        self.reach_if(first_of_today.is_some_and(|first| first.price != latest.price), on_second);
+    }
+
+    fn refused(&mut self, book: &Book, event: &Event, refusal: Refusal) {
+        let is_seventeenth = book.attempts.len() == MOST_ATTEMPTS;
+        match (*event, refusal) {
+            (Event::Delivery { short, quantity }, Refusal::NotFree) => {
+                let open = position(book, short).open();
+                self.reach_if(quantity <= open, State::AwardedUnits);
+            }
+            (Event::Attempt { short }, Refusal::OldPrice) => {
+                let [yesterday, long_ago] = [State::AttemptYesterday, State::AttemptLongAgo];
+                self.on_old_price(book, position(book, short), [yesterday, long_ago, State::NothingOpenOldAttempt]);
+                self.reach_if(is_seventeenth, State::SeventeenthOld);
+            }
+            (Event::Cash { short }, Refusal::OldPrice) => {
+                let [yesterday, long_ago] = [State::CashYesterday, State::CashLongAgo];
+                self.on_old_price(book, position(book, short), [yesterday, long_ago, State::NothingOpenOldCash]);
+            }
+            (Event::Attempt { short }, Refusal::Attempts) => {
+                let is_second = book.attempts.contains(&(usize::from(short) - 1));
+                self.reach_if(is_second, State::SecondAttempt);
+                self.reach_if(is_seventeenth && !is_second, State::SeventeenthToday);
+            }
+            (Event::Attempt { .. }, Refusal::NotFree) => self.reach_if(true, State::NothingOpenAttempt),
+            (Event::Cash { .. }, Refusal::NotFree) => self.reach_if(true, State::NothingOpenCash),
+            _ => {}
+        }
+    }
+
+    /// A step refused on an old price, by the day on which that was given.
+    fn on_old_price(&mut self, book: &Book, short: &Position, [yesterday, long_ago, nothing_open]: [State; 3]) {
+        let given = book.securities[short.security].latest_price.map(|latest| latest.day);
+        self.reach_if(given.is_some_and(|day| day + 1 == book.day), yesterday);
+        self.reach_if(given.is_some_and(|day| day + 10 <= book.day), long_ago);
+        self.reach_if(short.open() == 0, nothing_open);
     }
 
     fn pieces(&mut self, book: &Book, answer: &Answer) {
@@ -176,7 +253,7 @@ impl Survey {
 
     fn cash(&mut self, book: &Book, short: &Position, answer: &Answer) {
         let security = &book.securities[short.security];
-        let latest = security.latest_price.expect("cash settlement needs a price");
+        let latest = security.latest_price.expect("cash settlement needs a price").price;
         let early = short.r(book.day).is_some_and(|r| r < 40);
         let state = match (security.class, early) {
             (1, _) => State::Cash1,
@@ -209,9 +286,7 @@ impl Survey {
         for (at, short) in book.positions.iter().enumerate().filter(|(_, position)| is_late(book, position)) {
             let security = &book.securities[short.security];
             if security.class == 1 {
-                self.reach_if(security.latest_price.is_none(), State::LateUnpriced);
-                let value = u64::from(short.open()) * u64::from(security.latest_price.unwrap_or(0));
-                self.reach_if(charges::late_fine(value) > 0, State::Late);
+                self.late(book.day, short, security.latest_price);
             }
             let mut others = security.shorts.iter().filter(|&&other| other != at).map(|&other| &book.positions[other]);
             self.reach_if(others.any(|other| other.member == short.member && other.open() > 0), State::TwoShorts);
@@ -228,9 +303,19 @@ impl Survey {
         }
     }
 
+    /// A late short of class 1 with the latest price of its security.
+    fn late(&mut self, today: u16, short: &Position, latest: Option<LatestPrice>) {
+        self.reach_if(latest.is_none(), State::LateUnpriced);
+        if let Some(LatestPrice { price, day }) = latest {
+            let is_fined = charges::late_fine(u64::from(short.open()) * u64::from(price)) > 0;
+            self.reach_if(is_fined, State::Late);
+            self.reach_if(is_fined && day < today, State::LateOnOld);
+        }
+    }
+
     fn failed_award(&mut self, book: &Book, award: &Award) {
         let security = &book.securities[book.positions[award.short].security];
-        let value = u64::from(award.quantity) * u64::from(security.latest_price.unwrap_or(0));
+        let value = u64::from(award.quantity) * u64::from(security.latest_price.map_or(0, |latest| latest.price));
         let state = match security.class {
             1 => State::Fine1,
             2 => State::Fine2,

@@ -6,7 +6,7 @@ use super::figure::{cell, event_link, heads, mention, position_link};
 use super::pieces::{Pieces, Share};
 use crate::numbers::{counted, grouped};
 use crate::played::{side_name, Played};
-use second::book::{Position, Side};
+use second::book::{LatestPrice, Position, Side};
 
 pub fn section(played: &Played, pieces: &Pieces) -> String {
     let mut page = String::from("<section id=\"fails\"><h2>Fails and positions by security</h2>\n");
@@ -32,7 +32,7 @@ fn class_name(class: u8) -> &'static str {
 fn security(played: &Played, pieces: &Pieces, place: usize) -> String {
     let (class, isin) = played.register[place];
     let latest = match played.book.securities[place].latest_price {
-        Some(price) => format!("latest price {}", grouped(price)),
+        Some(LatestPrice { price, day }) => format!("latest price {}, given on day {}", grouped(price), grouped(day)),
         None => "no price yet".to_string(),
     };
     let number = place + 1;

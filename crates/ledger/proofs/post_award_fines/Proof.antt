@@ -10,6 +10,7 @@ use Rattle.register.specs.declared.Register.{Register}
 use Rattle.plain.specs.declared.Award.{Award}
 use Rattle.plain.specs.Book.{noAward, new, noPrice, nth}
 use Rattle.plain.specs.Charging.{Charge, awardFines}
+use Rattle.tables.specs.Tables as tables
 use Rattle.tables.specs.Tables.{Positions, positions, awards}
 use Rattle.tables.specs.declared.Prices.{Prices}
 use Rattle.rows.specs.Rows.{awardsOf}
@@ -23,7 +24,7 @@ use Rattle.ledger.proofs.post_award_fines.Statement.{statement}
 use Rattle.ledger.proofs.post_award_fines.Tie as tie
 
 abbrev finesOf : Positions → Prices → Register → Award → List Charge
-finesOf p prices register = awardFines (bookOf register 0 (prices .latest) (positions p))
+finesOf p prices register = awardFines (bookOf register 0 (tables.prices prices) (positions p))
 
 abbrev Inv-loop : tie.InvT-loop
 Inv-loop awards awarded rows held prices register after₀ i₀ after i =
@@ -54,8 +55,8 @@ accounted p =
 class-of : (p : tie.After-row-at Inv-loop μ-loop) → let a = p .before .before .before .before .before .args in let s = p .row-at .result .security in getD (a .t7 .classes) (s - 1) 0 ≡ nth 0 (a .t7 .classes) s
 class-of p = class-read (p .before .before .before .before .before .args .t7 .classes) _ (accounted p .security .above)
 
-latest-of : (p : tie.After-row-at Inv-loop μ-loop) → let a = p .before .before .before .before .before .args in let s = p .row-at .result .security in getD (a .t6 .latest) (s - 1) noPrice .price ≡ nth noPrice (a .t6 .latest) s .price
-latest-of p = latest-read (p .before .before .before .before .before .args .t6 .latest) _ (accounted p .security .above)
+latest-of : (p : tie.After-row-at Inv-loop μ-loop) → let a = p .before .before .before .before .before .args in let s = p .row-at .result .security in getD (a .t6 .latest) (s - 1) 0 ≡ nth noPrice (tables.prices (a .t6)) s .price
+latest-of p = latest-read (p .before .before .before .before .before .args .t6) _ (p .before .before .before .before .before .pre .prices-many) (accounted p .security)
 
 -- the award is fined: its charge is the next to be posted
 posting : (x : tie.After-award-fine Inv-loop μ-loop)
@@ -101,11 +102,11 @@ sub-k c = omega (arith, accounted (c .before) .security .above)
 cast-k : tie.Need-cast-k Inv-loop μ-loop
 cast-k c = search needs
 
-mul-quoted : tie.Need-mul-quoted Inv-loop μ-loop
-mul-quoted c = omega (arith, accounted (c .before) .security .below)
+mul-latest : tie.Need-mul-latest Inv-loop μ-loop
+mul-latest c = omega (arith, accounted (c .before) .security .below)
 
-element-copy-out-quoted : tie.Need-element-copy-out-quoted Inv-loop μ-loop
-element-copy-out-quoted c = omega (arith, accounted (c .before) .security .below)
+element-copy-out-latest : tie.Need-element-copy-out-latest Inv-loop μ-loop
+element-copy-out-latest c = omega (arith, accounted (c .before) .security .below)
 
 award-is-fined-requires : tie.Need-award-is-fined-requires Inv-loop μ-loop
 award-is-fined-requires c κs = search needs
@@ -169,8 +170,8 @@ post-award-fines-spec =
     row-at-requires
     sub-k
     cast-k
-    mul-quoted
-    element-copy-out-quoted
+    mul-latest
+    element-copy-out-latest
     award-is-fined-requires
     element-copy-out-class
     value-of-requires

@@ -24,6 +24,7 @@ post-award-fines-requires c κs =
     let k = c .before in
     record {
       room = room-first _ _ _ (k .pre .room);
+      prices-many = k .pre .prices-many;
       positions-fit = k .pre .positions-fit;
       accounted = k .pre .accounted;
       awards-fit = k .pre .awards-fit;
@@ -36,6 +37,7 @@ post-late-fines-requires c κs =
     let k = c .before in
     record {
       room = rw (fined c) (room-then _ _ _ (k .pre .room));
+      prices-many = k .pre .prices-many;
       positions-fit = k .pre .positions-fit;
       accounted = k .pre .accounted;
     }

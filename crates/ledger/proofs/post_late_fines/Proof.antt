@@ -11,6 +11,7 @@ use Rattle.register.specs.declared.Register.{Register}
 use Rattle.plain.specs.declared.Position.{Position}
 use Rattle.plain.specs.Book.{noPosition, new, noPrice, nth}
 use Rattle.plain.specs.Charging.{Charge, lateFines}
+use Rattle.tables.specs.Tables as tables
 use Rattle.tables.specs.Tables.{Positions, positions}
 use Rattle.tables.specs.declared.Prices.{Prices}
 use Rattle.rows.specs.Rows.{rowsOf}
@@ -24,7 +25,7 @@ use Rattle.ledger.proofs.post_late_fines.Statement.{statement}
 use Rattle.ledger.proofs.post_late_fines.Tie as tie
 
 abbrev finesOf : BusinessDay → Positions → Prices → Register → Position → List Charge
-finesOf day p prices register = lateFines (bookOf register (day .0) (prices .latest) (positions p))
+finesOf day p prices register = lateFines (bookOf register (day .0) (tables.prices prices) (positions p))
 
 abbrev Inv-loop : tie.InvT-loop
 Inv-loop rows held day prices register after₀ i₀ after i =
@@ -45,8 +46,8 @@ accounted r =
 class-of : (r : tie.After-row-at Inv-loop μ-loop) → let a = r .before .before .before .args in let s = r .row-at .result .security in getD (a .t5 .classes) (s - 1) 0 ≡ nth 0 (a .t5 .classes) s
 class-of r = class-read (r .before .before .before .args .t5 .classes) _ (accounted r .security .above)
 
-latest-of : (r : tie.After-row-at Inv-loop μ-loop) → let a = r .before .before .before .args in let s = r .row-at .result .security in getD (a .t4 .latest) (s - 1) noPrice .price ≡ nth noPrice (a .t4 .latest) s .price
-latest-of r = latest-read (r .before .before .before .args .t4 .latest) _ (accounted r .security .above)
+latest-of : (r : tie.After-row-at Inv-loop μ-loop) → let a = r .before .before .before .args in let s = r .row-at .result .security in getD (a .t4 .latest) (s - 1) 0 ≡ nth noPrice (tables.prices (a .t4)) s .price
+latest-of r = latest-read (r .before .before .before .args .t4) _ (r .before .before .before .pre .prices-many) (accounted r .security)
 
 -- the short is fined: its charge is the next to be posted
 posting : (x : tie.After-late-fine Inv-loop μ-loop)
@@ -81,11 +82,11 @@ cast-k c = search needs
 element-copy-out-class : tie.Need-element-copy-out-class Inv-loop μ-loop
 element-copy-out-class c = omega (arith, accounted (c .before) .security .below)
 
-mul-quoted : tie.Need-mul-quoted Inv-loop μ-loop
-mul-quoted c = omega (arith, accounted (c .before .before) .security .below)
+mul-latest : tie.Need-mul-latest Inv-loop μ-loop
+mul-latest c = omega (arith, accounted (c .before .before) .security .below)
 
-element-copy-out-quoted : tie.Need-element-copy-out-quoted Inv-loop μ-loop
-element-copy-out-quoted c = omega (arith, accounted (c .before .before) .security .below)
+element-copy-out-latest : tie.Need-element-copy-out-latest Inv-loop μ-loop
+element-copy-out-latest c = omega (arith, accounted (c .before .before) .security .below)
 
 short-is-fined-requires : tie.Need-short-is-fined-requires Inv-loop μ-loop
 short-is-fined-requires c κs = search needs
@@ -142,8 +143,8 @@ post-late-fines-spec =
     sub-k
     cast-k
     element-copy-out-class
-    mul-quoted
-    element-copy-out-quoted
+    mul-latest
+    element-copy-out-latest
     short-is-fined-requires
     value-of-requires
     late-fine-requires

@@ -18,13 +18,14 @@ pub fn large_quantities(random: &mut Random) -> Given {
     let short_of = |seller: u8| 1 + traders.iter().filter(|&&trader| trader < seller).count() as u16;
     let [one, other] = [traders[0], traders[1]].map(short_of);
     let closes = |days: usize| vec![Event::Close; days];
+    let price = Event::Price { security: 1, price: 1_000 };
     let mut events = closes(random.pick(&[0, 6, 7, 96, 97, 996, 997]));
     for _ in 0..random.pick(&[4, 20, 200, MOST_TRADES, MOST_TRADES]) {
         let (seller, buyer) = (random.pick(&traders[..2]), random.pick(&traders[2..]));
         let quantity = random.pick(&[GREATEST_QUANTITY, GREATEST_QUANTITY, GREATEST_QUANTITY - 1, 1]);
         events.push(Event::Trade { security: 1, seller, buyer, quantity, price: 1_000 });
     }
-    events.extend([Event::Price { security: 1, price: 1_000 }, Event::Close, Event::Close]);
+    events.extend(closes(2));
     for short in [one, other] {
         let least = 10_usize.pow(random.below(9) as u32);
         let quantity = random.between(least, 2 * least - 1) as u32;
@@ -33,9 +34,9 @@ pub fn large_quantities(random: &mut Random) -> Given {
     events.extend(closes(27));
     for _ in 0..random.below(8) {
         let quantities = [(); MOST_OFFERS].map(|_| random.between(1, GREATEST_QUANTITY as usize) as u32);
-        events.extend([auction(one, offerer, &quantities), closes(10)].concat());
+        events.extend([vec![price], auction(one, offerer, &quantities), closes(10)].concat());
     }
-    events.extend([closes(3), vec![Event::Cash { short: other }]].concat());
+    events.extend([closes(3), vec![price, Event::Cash { short: other }]].concat());
     Given { register: bytes_of(&with_classes(random, &[2])), file: file_of(&events) }
 }
 

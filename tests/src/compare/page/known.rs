@@ -35,18 +35,18 @@ const NINE_DIGITS: [&str; 3] = [
 pub fn nine_digits() -> Given {
     let trade = |seller| Event::Trade { security: 1, seller, buyer: 61, quantity: GREATEST_QUANTITY, price: 1_000 };
     let closes = |days| vec![Event::Close; days];
-    let auction_day = [auction(2, 1, &[987_654; MOST_OFFERS]), closes(10)].concat();
+    let price = Event::Price { security: 1, price: 1_000 };
+    let auction_day = [vec![price], auction(2, 1, &[987_654; MOST_OFFERS]), closes(10)].concat();
     let events = [
         closes(1_000),
         vec![trade(62); 312],
         vec![trade(63); 200],
-        vec![Event::Price { security: 1, price: 1_000 }],
         closes(2),
         vec![Event::Delivery { short: 2, quantity: 101_234_567 }],
         closes(27),
         auction_day.repeat(7),
         closes(3),
-        vec![Event::Cash { short: 3 }],
+        vec![price, Event::Cash { short: 3 }],
     ];
     Given::on_one_security(2, &events.concat())
 }
@@ -115,12 +115,12 @@ fn parts(units: u32) -> Vec<u32> {
     whole.into_iter().chain(rest).collect()
 }
 
-/// Member 1 sells the units to member 2 on day 1; the class is 1, and after the closes the steps follow.
+/// Member 1 sells the units to member 2 on day 1; the class is 1, and after the closes a price and the steps follow.
 fn sold(units: u32, closes: usize, steps: &[Event]) -> Given {
     let trade = |quantity| Event::Trade { security: 1, seller: 1, buyer: 2, quantity, price: 1_000 };
     let trades: Vec<Event> = parts(units).into_iter().map(trade).collect();
     let price = Event::Price { security: 1, price: 1_000 };
-    Given::on_one_security(1, &[&trades[..], &[price], &vec![Event::Close; closes], steps].concat())
+    Given::on_one_security(1, &[&trades[..], &vec![Event::Close; closes], &[price], steps].concat())
 }
 
 pub fn left_open(units: u32) -> Given {
@@ -225,7 +225,7 @@ pub fn refusals_in_order(check: &mut Check) {
 }
 
 /// Registers, each with its refusal. The squeeze needs the first entry alone.
-fn faulty_registers() -> Vec<(Vec<u8>, Option<u32>)> {
+pub fn faulty_registers() -> Vec<(Vec<u8>, Option<u32>)> {
     let [first, other] = [*b"XX0000000002", *b"DE0007164600"];
     let sound = bytes_of(&[(1, first), (2, other)]);
     vec![
@@ -243,7 +243,7 @@ fn faulty_registers() -> Vec<(Vec<u8>, Option<u32>)> {
 }
 
 /// Files of the squeeze, each with its refusal.
-fn faulty_files() -> Vec<(Vec<u8>, Option<u32>)> {
+pub fn faulty_files() -> Vec<(Vec<u8>, Option<u32>)> {
     let sound = file_of(&squeeze());
     let changed = |changes: &[(usize, u8)]| {
         let mut file = sound.clone();

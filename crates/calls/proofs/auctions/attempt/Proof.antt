@@ -60,7 +60,7 @@ latest-of-requires c κs =
     let r = c .before in
     let s = start (looked r) in
     let w = registered-at (s .args .core) (entry s) (s .pre .3) (s .args .a) (in-use (looked r)) _ (r .row-at .ensures) in
-    (s .pre .3 .valid .sound .standing .prices .many, w .0, w .1)
+    (s .pre .3 .valid .sound .standing .prices .many, record { above = w .0; below = w .1 })
 
 step-today-requires : tie.Need-step-today-requires
 step-today-requires c κs = search needs
@@ -87,14 +87,17 @@ returns-2 c =
     rw (c .refused2 .ensures)
     (attempt-refused _ (numbers _ trades awards counts) h _ (in-use (looked r)) _ (r .row-at .ensures) _ (s .class-of .ensures) _ (l .latest-of .ensures) _ (t .step-today .ensures) _ (m .is-marked .ensures) _ (k .attempt-refusal .ensures) (e .if2 .taken))
 
+price-of-requires : tie.Need-price-of-requires
+price-of-requires c κs = search needs
+
 ceiling-of-requires : tie.Need-ceiling-of-requires
 ceiling-of-requires c κs = search needs
 
 open-auction-requires : tie.Need-open-auction-requires
 open-auction-requires c κs =
-    let e = c .before in
+    let e = c .before .before in
     let k = e .before in
-    (start (looked (k .before .before .before .before .before)) .pre .3 .valid .fits .marks .places, mark-room _ _ _ _ _ _ (sym (k .attempt-refusal .ensures) ∙ e .if2 .left))
+    (start (looked (k .before .before .before .before .before)) .pre .3 .valid .fits .marks .places, mark-room _ _ _ _ _ _ _ (sym (k .attempt-refusal .ensures) ∙ e .if2 .left))
 
 done-requires : tie.Need-done-requires
 done-requires c κs = search needs
@@ -103,7 +106,8 @@ returns-3 : tie.Need-returns-3
 returns-3 c =
     let f = c .before in
     let o = f .before in
-    let e = o .before in
+    let q = o .before in
+    let e = q .before in
     let k = e .before in
     let m = k .before in
     let t = m .before in
@@ -112,7 +116,7 @@ returns-3 c =
     let r = s .before in
     λ trades awards counts h.
     rw (c .done .ensures, f .open-auction .ensures)
-    (attempt-taken _ (numbers _ trades awards counts) h _ (in-use (looked r)) _ (r .row-at .ensures) _ (s .class-of .ensures) _ (l .latest-of .ensures) _ (t .step-today .ensures) _ (m .is-marked .ensures) _ (k .attempt-refusal .ensures) (e .if2 .left) _ (o .ceiling-of .ensures))
+    (attempt-taken _ (numbers _ trades awards counts) h _ (in-use (looked r)) _ (r .row-at .ensures) _ (s .class-of .ensures) _ (l .latest-of .ensures) _ (t .step-today .ensures) _ (m .is-marked .ensures) _ (k .attempt-refusal .ensures) (e .if2 .left) _ (q .price-of .ensures) _ (o .ceiling-of .ensures))
 
 pub attempt-spec : {M : Type 1} → statement M
 attempt-spec =
@@ -132,6 +136,7 @@ attempt-spec =
     attempt-refusal-requires
     refused-requires-2
     returns-2
+    price-of-requires
     ceiling-of-requires
     open-auction-requires
     done-requires

@@ -1,8 +1,10 @@
 -- `calls::discharge::cash` meets its contract.
 use native.Mathlib.Omega.{arith}
-use mathlib.Core.Path.{_≡_, sym, _∙_}
+use mathlib.Core.Path.{_≡_, ap, sym, _∙_}
 use Rattle.events.specs.declared.Event.the-variants as event
+use Rattle.plain.specs.Book.{priceIn}
 use Rattle.plain.specs.Calls.{call}
+use Rattle.plain.proofs.Prices.{price-told}
 use Rattle.laws.specs.Asked.{Within}
 use Rattle.laws.specs.Refusals.{first}
 use Rattle.plain.specs.Refusals.{lookupReasons}
@@ -38,12 +40,16 @@ security r =
     let s = start (looked r) in
     registered (s .args .core) (entry s) (s .pre .0 .2) (s .args .c .position) _ (inside (looked r)) (r .row-at .ensures)
 
-terms : (k : tie.After-cash-refusal) → let s = start (looked (read k)) in
-    CashTerms (s .args .core) (s .args .rows .now) (s .args .c .position) (read k .row-at .result) (k .before .before .before .class-of .result) (k .before .before .latest-of .result)
-terms k =
-    let l = k .before .before in
+terms : (x : tie.After-price-of) → let k = x .before .before in let s = start (looked (read k)) in
+    CashTerms (s .args .core) (s .args .rows .now) (s .args .c .position) (read k .row-at .result) (k .before .before .before .class-of .result) (x .price-of .result)
+terms x =
+    let l = x .before .before .before .before in
     let g = l .before in
-    record { own = g .before .row-at .ensures; classed = g .class-of .ensures; priced = l .latest-of .ensures }
+    record {
+      own = g .before .row-at .ensures;
+      classed = g .class-of .ensures;
+      priced = x .price-of .ensures ∙ ap priceIn (l .latest-of .ensures) ∙ price-told _;
+    }
 
 lookup-refusal-requires : tie.Need-lookup-refusal-requires
 lookup-refusal-requires c κs = search needs
@@ -74,7 +80,7 @@ latest-of-requires : tie.Need-latest-of-requires
 unfolding view
 latest-of-requires c κs =
     let r = c .before in
-    (start (looked r) .pre .0 .2 .valid .sound .standing .prices .many, security r .above, security r .below)
+    (start (looked r) .pre .0 .2 .valid .sound .standing .prices .many, security r)
 
 step-today-requires : tie.Need-step-today-requires
 step-today-requires c κs = search needs
@@ -92,7 +98,7 @@ returns-2 c =
     let e = looked (read k) in
     λ trades awards h.
     rw (c .refused2 .ensures)
-    (cash-refused _ (numbers _ trades awards _) h _ _ _ _ _ _ (there e) (terms k) (k .before .step-today .ensures) (k .cash-refusal .ensures) _ (t .if2 .taken) (start e .pre .1))
+    (cash-refused _ (numbers _ trades awards _) h _ _ _ _ _ _ (there e) (read k .row-at .ensures) (k .before .before .before .class-of .ensures) (k .before .before .latest-of .ensures) (k .before .step-today .ensures) (k .cash-refusal .ensures) _ (t .if2 .taken) (start e .pre .1))
 
 -- nothing turns it down, whatever trades and awards the caller speaks of
 taken : (e : tie.Else2) → let s = start (looked (read (e .before))) in
@@ -100,17 +106,21 @@ taken : (e : tie.Else2) → let s = start (looked (read (e .before))) in
     → Taken (s .args .core) (numbers (s .args .rows .now) trades awards (s .args .counts .now)) (call (event.Cash (s .args .c)) 1024)
 taken e trades awards h =
     let k = e .before in
-    cash-accepted _ (numbers _ trades awards _) h _ _ _ _ _ _ (there (looked (read k))) (terms k) (k .before .step-today .ensures) (k .cash-refusal .ensures) (e .if2 .left)
+    cash-accepted _ (numbers _ trades awards _) h _ _ _ _ _ _ (there (looked (read k))) (read k .row-at .ensures) (k .before .before .before .class-of .ensures) (k .before .before .latest-of .ensures) (k .before .step-today .ensures) (k .cash-refusal .ensures) (e .if2 .left)
+
+price-of-requires : tie.Need-price-of-requires
+price-of-requires c κs = search needs
 
 settle-requires : tie.Need-settle-requires
 settle-requires c κs =
-    let e = c .before .before .before in
+    let x = c .before .before .before in
+    let e = x .before in
     let s = start (looked (read (e .before))) in
-    ((s .pre .0 .0, s .pre .0 .1, taken e (s .pre .0 .0) (s .pre .0 .1) (s .pre .0 .2)), terms (e .before), s .pre .1)
+    ((s .pre .0 .0, s .pre .0 .1, taken e (s .pre .0 .0) (s .pre .0 .1) (s .pre .0 .2)), terms x, s .pre .1)
 
 returns-3 : tie.Need-returns-3
 returns-3 c =
-    let e = c .before .before .before .before in
+    let e = c .before .before .before .before .before in
     λ trades awards h. c .settle .ensures trades awards (taken e trades awards h)
 
 pub cash-spec : {M : Type 1} → statement M
@@ -129,5 +139,6 @@ cash-spec =
     cash-refusal-requires
     refused-requires-2
     returns-2
+    price-of-requires
     settle-requires
     returns-3)

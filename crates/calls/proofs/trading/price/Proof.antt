@@ -28,18 +28,24 @@ sub-k c = placed (c .before) .0
 cast-k : tie.Need-cast-k
 cast-k c = search needs
 
-mul-t10 : tie.Need-mul-t10
-mul-t10 c = search needs
+mul-prices : tie.Need-mul-prices
+mul-prices c = search needs
 
-element-set-from-prices : tie.Need-element-set-from-prices
-element-set-from-prices c = omega (arith, placed (c .before .before) .0, placed (c .before .before) .1)
+element-write-prices : tie.Need-element-write-prices
+element-write-prices c = omega (arith, placed (c .before .before .before) .0, placed (c .before .before .before) .1)
+
+mul-day : tie.Need-mul-day
+mul-day c = search needs
+
+element-set-from-day : tie.Need-element-set-from-day
+element-set-from-day c = omega (arith, placed (c .before .before .before) .0, placed (c .before .before .before) .1)
 
 done-requires : tie.Need-done-requires
 done-requires c κs = search needs
 
 returns-2 : tie.Need-returns-2
 returns-2 c =
-    let e = c .before .before .before in
+    let e = c .before .before .before .before in
     λ a h. rw (c .done .ensures) (price-taken _ a _ h _ (e .before .price-refusal .ensures) (e .if1 .left))
 
 pub price-spec : {M : Type 1} → statement M
@@ -51,7 +57,9 @@ price-spec =
     returns
     sub-k
     cast-k
-    mul-t10
-    element-set-from-prices
+    mul-prices
+    element-write-prices
+    mul-day
+    element-set-from-day
     done-requires
     returns-2)
