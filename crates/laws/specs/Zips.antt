@@ -6,21 +6,7 @@ use mathlib.Core.List.{List, [], _∷_, zipWith}
 use lib.ListN.{length, getD, set, replicate}
 
 module _ {A B C : Type 0} (f : A → B → C) where
-  -- a place of the joined list is one of both lists, and holds what stands there in both
-  pub zip-first : (xs : List A) (ys : List B) (i : ℕ) → i < length (zipWith f xs ys) → i < length xs
-  unfolding zipWith
-  zip-first [] ys i h = h
-  zip-first (x ∷ xs) [] i h = absurd (omega arith)
-  zip-first (x ∷ xs) (y ∷ ys) zero h = omega arith
-  zip-first (x ∷ xs) (y ∷ ys) (suc i) h = omega (arith, zip-first xs ys i (omega arith))
-
-  pub zip-second : (xs : List A) (ys : List B) (i : ℕ) → i < length (zipWith f xs ys) → i < length ys
-  unfolding zipWith
-  zip-second [] ys i h = absurd (omega arith)
-  zip-second (x ∷ xs) [] i h = h
-  zip-second (x ∷ xs) (y ∷ ys) zero h = omega arith
-  zip-second (x ∷ xs) (y ∷ ys) (suc i) h = omega (arith, zip-second xs ys i (omega arith))
-
+  -- a place of the joined list holds what stands there in both
   pub zip-at : (xs : List A) (ys : List B) (i : ℕ) (a : A) (b : B) (c : C) → i < length (zipWith f xs ys) → getD (zipWith f xs ys) i c ≡ f (getD xs i a) (getD ys i b)
   unfolding zipWith
   zip-at [] ys i a b c h = absurd (omega arith)
