@@ -17,7 +17,8 @@ static void rules(void) {
     /* The squeeze of examples/: class 1, latest price 1,100, cash settlement of 90 units on day 11, due on day 3. */
     printf("step on day 8: %u, on day 11: %u\n", desk_step(1, 8 - 3), desk_step(1, 11 - 3));
     printf("ceiling: %llu cents\n", (unsigned long long)desk_ceiling(1, 1100));
-    printf("cash price to position 2: %llu cents\n", (unsigned long long)desk_cash_price(1, 1200, 1000, 1100));
+    /* Positions 2 and 3 are the longs in its pieces, with reference prices 1,000 and 1,200. */
+    printf("cash price: %llu cents\n", (unsigned long long)desk_cash_price(1, 1200, 1200, 1100));
     printf("fee: %llu cents\n", (unsigned long long)desk_cash_fee(90 * 1100));
     printf("fine for the award of 40: %llu cents\n", (unsigned long long)desk_award_fine(1, 40 * 1100));
     printf("late fine on 120 units: %llu cents\n", (unsigned long long)desk_late_fine(120 * 1100));

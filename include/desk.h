@@ -53,9 +53,10 @@ uint8_t desk_step(uint8_t class_of_security, uint16_t r);
 /* The ceiling of an auction, in cents. A class that is not 1 to 3 has none: 0. */
 uint64_t desk_ceiling(uint8_t class_of_security, uint32_t latest_price);
 
-/* The price of a unit in a piece of a cash settlement, in cents. */
-uint64_t desk_cash_price(uint8_t class_of_security, uint32_t short_reference_price, uint32_t long_reference_price,
-                         uint32_t latest_price);
+/* The price of a unit in a cash settlement, in cents, one for all its pieces: by the reference price of its short, the
+ * highest reference price among the longs in its pieces, and the latest price. */
+uint64_t desk_cash_price(uint8_t class_of_security, uint32_t short_reference_price,
+                         uint32_t highest_long_reference_price, uint32_t latest_price);
 
 /* A quotient rounded half up; a divisor of 0 gives 0. */
 uint64_t desk_rounded(uint64_t value, uint32_t divisor);

@@ -24,15 +24,16 @@ pub fn ceiling(class: u8, latest: u32) -> u64 {
     }
 }
 
-/// The price of one piece of a cash settlement.
-pub fn cash_price(class: u8, short_reference: u32, long_reference: u32, latest: u32) -> u64 {
+/// The price of a unit in a cash settlement, one for all its pieces: the highest of the short's reference price, those
+/// of the longs in its pieces, and the latest price raised.
+pub fn cash_price(class: u8, short_reference: u32, long_references: impl IntoIterator<Item = u32>, latest: u32) -> u64 {
     let latest = u64::from(latest);
     let raised = match class {
         1 | 2 => 2 * latest,
         3 => latest + 300,
         _ => 0,
     };
-    raised.max(short_reference.into()).max(long_reference.into())
+    long_references.into_iter().chain([short_reference]).map(u64::from).fold(raised, u64::max)
 }
 
 pub fn cash_fee(value: u64) -> u64 {

@@ -8,7 +8,7 @@ mod library {
     extern "C" {
         pub fn desk_step(class: u8, r: u16) -> u8;
         pub fn desk_ceiling(class: u8, latest: u32) -> u64;
-        pub fn desk_cash_price(class: u8, short: u32, long: u32, latest: u32) -> u64;
+        pub fn desk_cash_price(class: u8, short: u32, highest_long: u32, latest: u32) -> u64;
         pub fn desk_rounded(value: u64, divisor: u32) -> u64;
         pub fn desk_cash_fee(value: u64) -> u64;
         pub fn desk_award_fine(class: u8, value: u64) -> u64;
@@ -72,8 +72,9 @@ pub fn ceiling(class: u8, latest: u32) -> u64 {
     unsafe { library::desk_ceiling(class, latest) }
 }
 
-pub fn cash_price(class: u8, short_reference: u32, long_reference: u32, latest: u32) -> u64 {
-    unsafe { library::desk_cash_price(class, short_reference, long_reference, latest) }
+/// Of the longs' reference prices the library takes the highest alone.
+pub fn cash_price(class: u8, short_reference: u32, highest_long_reference: u32, latest: u32) -> u64 {
+    unsafe { library::desk_cash_price(class, short_reference, highest_long_reference, latest) }
 }
 
 pub fn rounded(value: u64, divisor: u32) -> u64 {

@@ -49,6 +49,7 @@ fn exhaustive(tests: &mut Tests, calendar: &Calendar) {
     compare::events::exhaustive(tests);
     compare::player::exhaustive(tests);
     compare::prices::exhaustive(tests);
+    compare::one_price::exhaustive(tests);
     compare::sheets::exhaustive(tests);
     compare::lines::exhaustive(tests);
     compare::page::exhaustive(tests);
@@ -71,6 +72,7 @@ fn seeded(round: &mut Round, calendar: &Calendar) {
     compare::events::seeded(round);
     compare::player::seeded(round);
     compare::prices::seeded(round);
+    compare::one_price::seeded(round);
     compare::sheets::seeded(round);
     compare::lines::seeded(round);
     compare::page::seeded(round);

@@ -15,7 +15,8 @@
 //! - `side`: of a position: short or long.
 //! - `stated_quantity`: what a trade, delivery or offer says, whether it is accepted or not.
 //! - `quantity`: what the player answers to the event; the units of a piece or charge.
-//! - `price`: of a trade, price or offer; of the award in a buy-in difference; a unit's price in a payment.
+//! - `price`: of a trade, price or offer; of the award in a buy-in difference; a unit's price in a payment, one for all
+//!   payments of a cash settlement.
 //! - `latest_price`: the security's, where a charge comes from it.
 //! - `reference_price`: of a position; of the short in a buy-in difference or payment.
 //! - `delivery_day`, `netted`, `delivered`, `bought_in`, `cash`, `open`: of a position.

@@ -3,7 +3,7 @@
 use crate::numbers::{counted, grouped};
 use crate::played::{holder, side_name, Done, Kind, Played, Refused, Step, KINDS};
 use crate::table::{aligned, widths, Row};
-use second::book::{Award, Cause, Charge, Piece, Position};
+use second::book::{Award, Cause, Charge, Longs, Piece, Position};
 use second::events::Event;
 
 /// All of a play.
@@ -140,17 +140,18 @@ pub fn figures(played: &Played, charge: &Charge) -> String {
                 counted(quantity, "unit")
             )
         }
-        Cause::Payment { short, long, quantity, short_reference, long_reference, latest, price } => {
+        Cause::Payment { short, long, quantity, short_reference, longs, latest, price } => {
             let raised = match class(short) {
                 3 => "plus 300",
                 _ => "doubled",
             };
-            let [short_reference, long_reference, latest] = [short_reference, long_reference, latest].map(grouped);
+            let [short_reference, latest] = [short_reference, latest].map(grouped);
             format!(
-                "{} times {}, the highest of reference price {short_reference} of position {short}, reference price \
-                 {long_reference} of position {long} and the latest price {latest} {raised}",
+                "{} of position {long} times {}, the highest of reference price {short_reference} of position {short}, \
+                 {} and the latest price {latest} {raised}",
                 counted(quantity, "unit"),
-                grouped(price)
+                grouped(price),
+                highest_reference(&longs)
             )
         }
         Cause::Fee { short, quantity, latest } => {
@@ -162,6 +163,16 @@ pub fn figures(played: &Played, charge: &Charge) -> String {
         },
         Cause::Late { short, quantity, latest } => format!("{} that over 10,000", value(quantity, short, latest)),
     }
+}
+
+/// The highest reference price of the longs in a cash settlement, as there may be hundreds of them.
+fn highest_reference(longs: &Longs) -> String {
+    let &Longs { count, highest, reference_price } = longs;
+    let among = match count {
+        1 => String::new(),
+        _ => format!(" (the highest among the settlement's {} longs)", grouped(count)),
+    };
+    format!("reference price {} of position {highest}{among}", grouped(reference_price))
 }
 
 /// Quantity times latest price.

@@ -1,6 +1,6 @@
 -- A cash settlement in place: its refusals are the plain book's, and pricing by the positions as the dealing left them is pricing by those before it,
 -- since only members and references are gone by.
-use Prim.Native.Nat.{ℕ, zero, suc, _-_, _≤_}
+use Prim.Native.Nat.{ℕ, zero, suc, _-_}
 use native.Mathlib.Omega.{arith}
 use mathlib.Core.Path.{_≡_, refl, ap, sym, _∙_}
 use mathlib.Core.Logic.{_≢_}
@@ -20,7 +20,7 @@ use Rattle.plain.specs.declared.Manner.the-variants as manner
 use Rattle.plain.specs.declared.Outcome.the-variants as outcome
 use Rattle.plain.specs.Book.{noPosition, noPrice, nth, lookedUp}
 use Rattle.plain.specs.Dealing.{lowered, lowering}
-use Rattle.plain.specs.Charging.{Charge, payment, posted, pricedBy, cashChargesBy, feeOf}
+use Rattle.plain.specs.Charging.{Charge, payment, posted, settlementPrice, pricedAt, cashChargesBy, feeOf}
 use Rattle.plain.specs.Calls.{call, dealt}
 use Rattle.plain.specs.Refusals.{refusal, lookupReasons, cashReasons}
 use Rattle.laws.specs.Asked.{Within}
@@ -37,10 +37,10 @@ use Rattle.ledger.specs.Tabled.{Accounted, Priced}
 use Rattle.ledger.proofs.Elements.{position-numbered}
 use Rattle.positions.specs.Dealing.{dealtOut}
 use Rattle.tables.specs.Lent.{positionTable, pieceTable, rowOf}
-use Rattle.ledger.specs.Settling.{paymentBy, paymentsBy, Owed, Settleable}
+use Rattle.ledger.specs.Settling.{priceOf, paymentAt, paymentsAt, settlementOf, OwedBy, Settleable}
 use Rattle.kept.specs.View.{view, Valid}
 use Rattle.kept.specs.Discharging.{Terms, Dischargeable}
-use Rattle.kept.proofs.Discharging.{positions-many, accounted, lookup-there, missing-number, cash-split, cash-number, cash-terms, cash-dealing, cash-priceable, cash-room, settled}
+use Rattle.kept.proofs.Discharging.{positions-many, accounted, lookup-there, missing-number, cash-split, cash-number, cash-terms, cash-dealing, cash-priceable, cash-price, cash-room, settled}
 use Rattle.calls.specs.declared.Core.{Core}
 use Rattle.calls.specs.declared.Followed.{Followed}
 use Rattle.calls.specs.View.{Numbers, numbers, keptOf, bookOf, heldIn, Held, Taken, CashTerms, CalledOn, Discharging, Discharged}
@@ -59,10 +59,6 @@ module _ (xs : List Piece) where
   unfolding lowering lowered
   accounted-kept ps = all-number Accounted (lowered xs) Accounted 1 ps (λ k p s. record { member = s .member; security = s .security })
 
-  references-kept : (ps : List Position) → All (λ p. p .reference ≤ 10000000) ps → All (λ p. p .reference ≤ 10000000) (lowering xs ps)
-  unfolding lowering lowered
-  references-kept ps = all-number (λ p. p .reference ≤ 10000000) (lowered xs) (λ p. p .reference ≤ 10000000) 1 ps (λ k p s. s)
-
 take-mapped : {A B : Type 0} (f : A → B) (n : ℕ) (xs : List A) → take n (map f xs) ≡ map f (take n xs)
 take-mapped f zero xs = refl
 take-mapped f (suc n) [] = refl
@@ -72,25 +68,17 @@ each-mapped : {A B C : Type 0} (g : B → C) (f : A → B) (xs : List A) → eac
 each-mapped g f [] = refl
 each-mapped g f (x ∷ xs) = ap (λ ys. g (f x) ∷ ys) (each-mapped g f xs)
 
--- pricing and paying by positions that have the same members and references
-module _ (class latest : ℕ) (p q : Positions) (members : (k : ℕ) → nth noPosition (table.positions q) k .member ≡ nth noPosition (table.positions p) k .member)
-    (references : (k : ℕ) → nth noPosition (table.positions q) k .reference ≡ nth noPosition (table.positions p) k .reference) where
-  priced-one : (x : Piece) → pricedBy class latest (table.positions q) x ≡ pricedBy class latest (table.positions p) x
-  unfolding pricedBy
-  priced-one x = rw (references (x .short), references (x .long))
+-- paying by positions that have the same members
+module _ (price : ℕ) (p q : Positions) (members : (k : ℕ) → nth noPosition (table.positions q) k .member ≡ nth noPosition (table.positions p) k .member) where
+  payment-one : (x : Piece) → paymentAt price q x ≡ paymentAt price p x
+  unfolding payment pricedAt
+  payment-one x = rw (members (x .short), members (x .long))
 
-  payment-one : (x : Piece) → paymentBy class latest q x ≡ paymentBy class latest p x
-  unfolding payment pricedBy
-  payment-one x = rw (members (x .short), members (x .long), references (x .short), references (x .long))
-
-  priced-same : (xs : List Piece) → map (pricedBy class latest (table.positions q)) xs ≡ map (pricedBy class latest (table.positions p)) xs
-  priced-same xs = λ i. map (λ x. priced-one x i) xs
-
-  payments-same : (xs x : Pieces) → Priced xs p class latest x → paymentsBy class latest q xs ≡ map (payment (table.positions p)) (table.pieces x)
-  unfolding paymentsBy
+  payments-same : (xs x : Pieces) → Priced xs price x → paymentsAt price q xs ≡ map (payment (table.positions p)) (table.pieces x)
+  unfolding paymentsAt
   payments-same xs x g =
       (λ i. each (λ y. payment-one y i) (table.pieces xs))
-      ∙ each-mapped (payment (table.positions p)) (pricedBy class latest (table.positions p)) (table.pieces xs)
+      ∙ each-mapped (payment (table.positions p)) (pricedAt price) (table.pieces xs)
       ∙ ap (map (payment (table.positions p))) (sym (g .priced))
 
 -- the refusals
@@ -148,29 +136,45 @@ module _ (b : Core) (a : Numbers) (c : Cash) (t : Taken b a (call (event.Cash c)
     abbrev dealt-pieces : Pieces
     dealt-pieces = pieceTable manner.Cash mid made
 
+    -- a field that no discharge changes
+    same-field : (f : Position → ℕ) → ((xs : List Piece) (j : ℕ) (q : Position) → f (lowered xs j q) ≡ f q) → (k : ℕ) → f (nth noPosition (table.positions left-table) k) ≡ f (nth noPosition (table.positions old) k)
+    unfolding lowering
+    same-field f same k =
+        let xs = dealtOut old (b .day .0) (c .position) (p .unsettled) manner.Cash in
+        rw (w .dealt .positions) (nth-alike noPosition f (lowering xs (table.positions old)) (table.positions old) (kept xs f (same xs) 1 (table.positions old)) k)
+
     members : (k : ℕ) → nth noPosition (table.positions left-table) k .member ≡ nth noPosition (table.positions old) k .member
-    unfolding lowering lowered
-    members k = rw (w .dealt .positions) (nth-alike noPosition (λ p. p .member) (lowering (dealtOut old (b .day .0) (c .position) (p .unsettled) manner.Cash) (table.positions old)) (table.positions old) (kept (dealtOut old (b .day .0) (c .position) (p .unsettled) manner.Cash) (λ p. p .member) (λ j q. refl) 1 (table.positions old)) k)
+    unfolding lowered
+    members = same-field (λ q. q .member) (λ xs j q. refl)
 
     references : (k : ℕ) → nth noPosition (table.positions left-table) k .reference ≡ nth noPosition (table.positions old) k .reference
-    unfolding lowering lowered
-    references k = rw (w .dealt .positions) (nth-alike noPosition (λ p. p .reference) (lowering (dealtOut old (b .day .0) (c .position) (p .unsettled) manner.Cash) (table.positions old)) (table.positions old) (kept (dealtOut old (b .day .0) (c .position) (p .unsettled) manner.Cash) (λ p. p .reference) (λ j q. refl) 1 (table.positions old)) k)
+    unfolding lowered
+    references = same-field (λ q. q .reference) (λ xs j q. refl)
 
-    charges-are : (x : Pieces) → Priced dealt-pieces old class latest x → paymentsBy class latest left-table dealt-pieces ++ feeOf p latest ∷ [] ≡ cashChargesBy latest (table.positions old) (c .position) (table.pieces x)
+    -- the price by the positions as the dealing left them is the price by those before it
+    abbrev price : ℕ
+    price = priceOf class latest p left-table dealt-pieces
+
+    price-same : price ≡ settlementPrice (bookOf b a) (c .position) (table.pieces dealt-pieces)
+    unfolding priceOf view
+    price-same =
+        cash-price (keptOf b a) v c able (p .unsettled) class latest by _ (w .dealt) _ _ (ap (λ (q : Position). q .reference) own) (λ i. map (λ x. references (x .long) i) (table.pieces dealt-pieces))
+
+    charges-are : (x : Pieces) → Priced dealt-pieces price x → settlementOf class latest p left-table dealt-pieces ≡ cashChargesBy latest (table.positions old) (c .position) (table.pieces x)
     unfolding cashChargesBy
     charges-are x g =
-        ap (λ (cs : List Charge). cs ++ feeOf p latest ∷ []) (payments-same class latest old left-table members references dealt-pieces x g)
+        ap (λ (cs : List Charge). cs ++ feeOf p latest ∷ []) (payments-same price old left-table members dealt-pieces x g)
         ∙ ap (λ (q : Position). map (payment (table.positions old)) (table.pieces x) ++ feeOf q latest ∷ []) own
 
     -- the pieces as they will be, before they are priced
-    ahead : Priced dealt-pieces old class latest (record { items = map (pricedBy class latest (table.positions old)) (piecesOf manner.Cash mid); count = made })
+    ahead : Priced dealt-pieces price (record { items = map (pricedAt price) (piecesOf manner.Cash mid); count = made })
     unfolding table.pieces
     ahead =
         let f = w .dealt .pieces-fit in
         record {
           many = refl;
-          priced = take-mapped (pricedBy class latest (table.positions old)) made (piecesOf manner.Cash mid);
-          fit = record { places = length-map (piecesOf manner.Cash mid) (pricedBy class latest (table.positions old)) ∙ f .places; held = f .held };
+          priced = take-mapped (pricedAt price) made (piecesOf manner.Cash mid);
+          fit = record { places = length-map (piecesOf manner.Cash mid) (pricedAt price) ∙ f .places; held = f .held };
         }
 
     shorts : All (λ x. x .short ≡ c .position) (table.pieces dealt-pieces)
@@ -178,34 +182,28 @@ module _ (b : Core) (a : Numbers) (c : Cash) (t : Taken b a (call (event.Cash c)
     shorts =
         rw (w .dealt .pieces, by .unsettled) (deals (bookOf b a) manner.Cash (c .position) _ (v .sound .settled .even) (cash-dealable (bookOf b a) c (cash-taken (bookOf b a) c 1024 (t .accepted))) .shorts)
 
-    owed-of : (x : Piece) → x .short ≡ c .position → Owed left-table p x
+    owed-of : (x : Piece) → x .short ≡ c .position → OwedBy (p .member) left-table x
     owed-of x e =
-        record {
-          member = ap (λ (k : ℕ). nth noPosition (table.positions left-table) k .member) e ∙ members (c .position) ∙ ap (λ (q : Position). q .member) (sym own);
-          reference = ap (λ (k : ℕ). nth noPosition (table.positions left-table) k .reference) e ∙ references (c .position) ∙ ap (λ (q : Position). q .reference) (sym own);
-        }
+        ap (λ (k : ℕ). nth noPosition (table.positions left-table) k .member) e ∙ members (c .position) ∙ ap (λ (q : Position). q .member) (sym own)
 
-    pub settleable : Settleable (b .ledger) (paymentsBy class latest left-table dealt-pieces ++ feeOf p latest ∷ []) left-table dealt-pieces p latest
+    pub settleable : Settleable (b .ledger) (settlementOf class latest p left-table dealt-pieces) left-table dealt-pieces (p .member)
     settleable =
         let g = cash-priceable (keptOf b a) v c able (p .unsettled) class latest by _ (w .dealt) in
         let all = accounted (keptOf b a) v in
         record {
-          room = rw (charges-are _ ahead) (cash-room (keptOf b a) v c able (p .unsettled) class latest by _ (w .dealt) _ ahead);
-          priceable = record { price = g .price; positions-fit = w .dealt .positions-fit; references = rw (w .dealt .positions) (references-kept _ (table.positions old) (g .references)); pieces-fit = g .pieces-fit; paired = g .paired };
+          room = rw (charges-are _ ahead) (cash-room (keptOf b a) v c able (p .unsettled) class latest by _ (w .dealt) price price-same _ ahead);
+          priceable = record { positions-fit = w .dealt .positions-fit; pieces-fit = g .pieces-fit; paired = g .paired };
           accounted = rw (w .dealt .positions) (accounted-kept _ (table.positions old) all);
-          owed = all-of (λ x. x .short ≡ c .position) (Owed left-table p) (table.pieces dealt-pieces) owed-of shorts;
-          payer = rw (terms .own) (position-numbered old (g .positions-fit) Accounted (c .position) inside all .member);
-          reference = rw (terms .own) (position-numbered old (g .positions-fit) (λ q. q .reference ≤ 10000000) (c .position) inside (g .references));
+          owed = all-of (λ x. x .short ≡ c .position) (OwedBy (p .member) left-table) (table.pieces dealt-pieces) owed-of shorts;
+          account = rw (terms .own) (position-numbered old (g .positions-fit) Accounted (c .position) inside all .member);
         }
 
-    pub cash-done : (sheet left : List ℕ) (l : Ledger) → Priced dealt-pieces left-table class latest (pieceTable manner.Cash left made)
-        → l ≡ posted (b .ledger) (paymentsBy class latest left-table dealt-pieces ++ feeOf p latest ∷ []) → length left ≡ 4096
+    pub cash-done : (sheet left : List ℕ) (l : Ledger) → Priced dealt-pieces price (pieceTable manner.Cash left made)
+        → l ≡ posted (b .ledger) (settlementOf class latest p left-table dealt-pieces) → length left ≡ 4096
         → CalledOn b a (call (event.Cash c) 1024) manner.Cash sheet (dischargedCore b f l) (numbers zs (a .trades) (a .awards) cs) left (outcome.Done (p .unsettled)) made
     unfolding table.pieces
-    cash-done sheet left l priced posts long =
-        let g : Priced dealt-pieces old class latest (pieceTable manner.Cash left made) =
-        record { many = refl; priced = priced .priced ∙ priced-same class latest old left-table members references (table.pieces dealt-pieces); fit = priced .fit } in
-        let r = settled (keptOf b a) v c able (p .unsettled) class latest by _ (w .dealt) (pieceTable manner.Cash left made) g l (posts ∙ ap (posted (b .ledger)) (charges-are (pieceTable manner.Cash left made) g)) in
+    cash-done sheet left l g posts long =
+        let r = settled (keptOf b a) v c able (p .unsettled) class latest by _ (w .dealt) price price-same (pieceTable manner.Cash left made) g l (posts ∙ ap (posted (b .ledger)) (charges-are (pieceTable manner.Cash left made) g)) in
         record {
           called =
               taken-called b a (call (event.Cash c) 1024) (dischargedCore b f l) (numbers zs (a .trades) (a .awards) cs) (p .unsettled) (take made (piecesOf manner.Cash left)) (t .held) (t .accepted) (r .quantity) (r .pieces) (r .book) (r .fits)

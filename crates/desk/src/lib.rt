@@ -1,6 +1,7 @@
 // The static library for C and Rust: what a desk calls, on numbers and byte slices. None has a `requires`. A refusal number and a quantity are
 // answered as one number (`answers`).
 ghost use mathlib.Core.Path.{_≡_};
+ghost use mathlib.Core.List.{[], _∷_};
 ghost use lib.ListN.{length};
 ghost use Rattle.laws.specs.Refusals.{accepted};
 ghost use Rattle.rules.specs.Windows.{stepOn, stepKind};
@@ -64,9 +65,10 @@ pub extern "C" fn desk_ceiling(class: u8, latest: u32) -> u64
     rules::ceiling_of(class, latest)
 }
 
+// The price of a unit in a cash settlement, by the reference price of its short and the highest one among the longs in its pieces (`by-highest-long`).
 #[no_mangle]
 pub extern "C" fn desk_cash_price(class: u8, short: u32, long: u32, latest: u32) -> u64
-    ensures { λ r. ⌜ r ≡ cashPrice class short long latest ⌝ }
+    ensures { λ r. ⌜ r ≡ cashPrice class short (long ∷ []) latest ⌝ }
 {
     rules::cash_price(class, short, long, latest)
 }

@@ -28,7 +28,7 @@ use Rattle.plain.proofs.Kept.{run-opening}
 use Rattle.plain.proofs.Prices.{given-today}
 use Rattle.plain.proofs.Sound.{done-sound, new-sound}
 use Rattle.plain.proofs.Discharges as discharges
-use Rattle.plain.proofs.Discharges.{discharge}
+use Rattle.plain.proofs.Discharges.{discharge, one-price}
 use Rattle.plain.proofs.Claim as told
 use Rattle.pieces.specs.Sheet.{piecesOf}
 use Rattle.pieces.proofs.Cells.{length-pieces}
@@ -41,7 +41,7 @@ use Rattle.calls.specs.Reading.{positionAnswer, priceAnswer, signed}
 use Rattle.book.specs.View as whole
 use Rattle.book.proofs.Returns as book
 use Rattle.history.specs.Runs.{Stand, view, Return, piecesOn, Answers, bare, onNumbers, byValue, lent, Runs, stop, step, last, sheets, RunsTo, Begins, inPlace, asOneValue}
-use Rattle.history.specs.Claim.{Each, none, one, DealtOut, Fresh, Kept, Filled, History}
+use Rattle.history.specs.Claim.{Each, none, one, DealtOut, Fresh, PricedOnce, Kept, Filled, History}
 
 -- What one call returned, with its pieces as the sheet has them: the same, however it was made
 
@@ -100,6 +100,9 @@ dealt-out s c r h k e kind =
 
 fresh : (s : Stand) (c : Call) (r : Return) → Sound (view s) → Answers s c r → Fresh s c r
 fresh s c r h k n e needs = given-today (view s) c n (h .standing .prices) (sym (number k) ∙ e) needs
+
+priced-once : (s : Stand) (c : Call) (r : Return) → Sound (view s) → Answers s c r → PricedOnce s c r
+priced-once s c r h k x e is = rw (called k .returned .pieces) (one-price (view s) c x (sym (number k) ∙ e) is)
 
 same-stand : (s z : Stand) → (z .core ≡ s .core) × (z .numbers ≡ s .numbers) → z ≡ s
 same-stand s z e i = record { core = e .0 i; numbers = e .1 i }
@@ -195,6 +198,7 @@ claim opening {s} {cs} {rs} e few runs =
       fresh = every fresh sound runs;
       dealt = all-same piecesOn pieces (λ s c r k. called k .returned .pieces) (new opening) e runs;
       discharges = every dealt-out sound runs;
+      one-price = every priced-once sound runs;
       accounts = rw same (claim .accounts');
       balances = λ k h. rw (le-ltb 63 k (omega arith)) (ap signed (ap (λ (p : plain.Book). balance p k) same ∙ claim .accounts' k h));
       zero-sum = rw same (claim .zero-sum);

@@ -11,6 +11,8 @@ use Rattle.laws.specs.Limits.{ACCOUNTS}
 use Rattle.laws.specs.Asked.{within}
 use Rattle.laws.specs.Lists.{All, range, sum}
 use Rattle.laws.specs.Integers.{sumℤ}
+use Rattle.events.specs.declared.Cash.{Cash}
+use Rattle.events.specs.declared.Event.the-variants as event
 use Rattle.plain.specs.declared.Opening.{Opening}
 use Rattle.plain.specs.declared.Position.{Position}
 use Rattle.plain.specs.declared.Piece.{Piece}
@@ -22,6 +24,7 @@ use Rattle.plain.specs.Refusals.{refusal}
 use Rattle.plain.specs.Histories.{eventOf, pieces, quantity, along, refusals, quantities, run, allCharges, acceptedEvents, formedBy, latestBy, balance}
 use Rattle.plain.specs.Invariants.{DueLong, NeedsPrice, GivenToday}
 use Rattle.plain.specs.Sound.{Small}
+use Rattle.plain.specs.Claim.{OnePrice}
 use Rattle.pieces.specs.Sheet.{piecesOf}
 use Rattle.kept.specs.View.{answer, numberOf, quantityOf}
 use Rattle.calls.specs.declared.PositionAnswer.the-variants.{Found}
@@ -46,6 +49,10 @@ DealtOut s c r = numberOf (r .outcome) ≡ 0 → isDischarge (eventOf c) ≡ tru
 -- of an attempt or cash settlement that was accepted: the latest price of its security was given today
 abbrev pub Fresh : Stand → Call → Return → Type 0
 Fresh s c r = (n : ℕ) → numberOf (r .outcome) ≡ 0 → NeedsPrice (eventOf c) n → GivenToday (view s) (positionOf (view s) n .security)
+
+-- of a cash settlement that was accepted: all its pieces have one price, the highest term of the rule
+abbrev pub PricedOnce : Stand → Call → Return → Type 0
+PricedOnce s c r = (x : Cash) → numberOf (r .outcome) ≡ 0 → eventOf c ≡ event.Cash x → OnePrice (view s) (x .position) (piecesOn r)
 
 -- "A refused call changes nothing": core and tables are the very same
 abbrev pub Kept : Stand → Call → Return → Type 0
@@ -97,6 +104,8 @@ pub record History (opening : Opening) (s : Stand) (cs : List Call) (rs : List R
   -- 3. each call's pieces are the plain book's, in the same order; an accepted discharge's add up to the quantity that it reports
   pub dealt : map piecesOn rs ≡ along pieces (new opening) cs
   pub discharges : Each DealtOut s cs rs
+  -- and each accepted cash settlement has one price for all its pieces
+  pub one-price : Each PricedOnce s cs rs
   -- 4. every account is the charging rules summed over the list
   pub accounts : (k : ℕ) → k < ACCOUNTS → balance (view (last s rs)) k ≡ subℕ (creditOf k (allCharges (new opening) cs)) (debitOf k (allCharges (new opening) cs))
   -- the same of what the public read reports of an account

@@ -31,10 +31,11 @@ use Rattle.plain.specs.Dealing.{names, taken, takenBy, lowered, lowering}
 use Rattle.plain.specs.Auction.{unconfirmed}
 use Rattle.plain.specs.Changing as changing
 use Rattle.plain.specs.Calls.{call, dealt, discharged, handsOut, charges, amount, done}
+use Rattle.rules.specs.Prices.{cashPrice}
 use Rattle.rules.specs.Charges.{buyInCharge}
 use Rattle.rules.specs.Windows.{stepOn}
 use Rattle.rules.specs.declared.Step.{Step}
-use Rattle.plain.specs.Charging.{Charge, charge, buyInCharges, priced, cashCharges, posted, credited, debited, cashChargesBy, pricedBy}
+use Rattle.plain.specs.Charging.{Charge, charge, buyInCharges, longReferences, settlementPrice, pricedAt, cashCharges, posted, credited, debited, cashChargesBy}
 use Rattle.plain.specs.Refusals.{stepToday, refusal, lookupReasons, deliveryReasons, confirmReasons, cashReasons, free, reasons}
 use Rattle.plain.proofs.Accepted.{delivery-taken, confirm-taken, cash-taken}
 use Rattle.plain.specs.Invariants.{Fair, Dealable, Deals, AwardFits}
@@ -52,12 +53,11 @@ use Rattle.positions.specs.Dealing.{Dealing, DealtOut, Dealt}
 use Rattle.auction.specs.Awards.{Countable, Confirmable, Confirmed}
 use Rattle.ledger.specs.Posts.{Room}
 use Rattle.ledger.specs.Tabled.{Chargeable, Accounted, Paired, Priceable, Priced}
-use Rattle.ledger.specs.Parts.{priced-pieces}
-use Rattle.ledger.proofs.Reached.{call-room, all-accounted, all-references, all-paired}
+use Rattle.ledger.proofs.Reached.{call-room, all-accounted, all-paired}
 use Rattle.kept.specs.View.{Kept, view, Fits, Valid}
 use Rattle.kept.specs.Changing.{withPositions, withAwards, withLedger}
 use Rattle.kept.specs.Discharging.{Terms, Dischargeable, Done}
-use Rattle.plain.proofs.Numbered.{nth-all, nth-anywhere}
+use Rattle.plain.proofs.Numbered.{nth-all}
 
 -- Places in use
 
@@ -260,20 +260,20 @@ module _ (b : Kept) (v : Valid b) (c : Confirm) where
 -- Cash settlement
 
 -- pricing changes nothing that positions are lowered by
-module _ (b : plain.Book) (xs : List Piece) where
-  taken-priced : (n : ℕ) → taken n (map (priced b) xs) ≡ taken n xs
-  unfolding taken names priced pricedBy
-  taken-priced n = sum-map (names n) (priced b) xs
+module _ (price : ℕ) (xs : List Piece) where
+  taken-priced : (n : ℕ) → taken n (map (pricedAt price) xs) ≡ taken n xs
+  unfolding taken names pricedAt
+  taken-priced n = sum-map (names n) (pricedAt price) xs
 
-  by-priced : (m : Manner) (n : ℕ) → takenBy m n (map (priced b) xs) ≡ takenBy m n xs
-  unfolding takenBy names priced pricedBy
-  by-priced m n = sum-map _ (priced b) xs
+  by-priced : (m : Manner) (n : ℕ) → takenBy m n (map (pricedAt price) xs) ≡ takenBy m n xs
+  unfolding takenBy names pricedAt
+  by-priced m n = sum-map _ (pricedAt price) xs
 
-  lowered-priced : (n : ℕ) (p : Position) → lowered (map (priced b) xs) n p ≡ lowered xs n p
+  lowered-priced : (n : ℕ) (p : Position) → lowered (map (pricedAt price) xs) n p ≡ lowered xs n p
   unfolding lowered
   lowered-priced n p = rw (taken-priced n, by-priced manner.Delivered n, by-priced manner.BoughtIn n, by-priced manner.Cash n)
 
-  lowering-priced : (ps : List Position) → lowering (map (priced b) xs) ps ≡ lowering xs ps
+  lowering-priced : (ps : List Position) → lowering (map (pricedAt price) xs) ps ≡ lowering xs ps
   unfolding lowering
   lowering-priced ps = λ i. number (λ n p. lowered-priced n p i) 1 ps
 
@@ -333,23 +333,25 @@ module _ (b : Kept) (v : Valid b) (c : Cash) where
       unfolding view dealt
       unpriced-is = f .pieces ∙ ap (λ (u : ℕ). dealt (view b) manner.Cash (c .position) u) (t .unsettled)
 
-      pub cash-priceable : Priceable (r .pieces) (b .positions) latest
+      pub cash-priceable : Priceable (r .pieces) (b .positions)
       unfolding view
       cash-priceable =
           record {
-            price = rw (t .latest) (nth-anywhere plain.noPrice (λ l. l .price ≤ 10000000) (table.prices (b .prices)) (settledShort .security) (omega arith) (v .sound .standing .prices .small));
             positions-fit = v .fits .positions;
-            references = all-references (b .opening .register .count) (b .day .0) (table.positions (b .positions)) (v .sound .standing .fair);
             pieces-fit = f .pieces-fit;
             paired = rw unpriced-is (paired-of (dealt (view b) manner.Cash (c .position) (settledShort .unsettled)) cash-deals);
           }
 
-      module _ (x : Pieces) (g : Priced (r .pieces) (b .positions) class latest x) where
+      -- the price of the settlement, by what it is found from
+      pub cash-price : (reference : ℕ) (longs : List ℕ) → reference ≡ settledShort .reference → longs ≡ longReferences (table.positions (b .positions)) (table.pieces (r .pieces))
+          → cashPrice class reference longs latest ≡ settlementPrice (view b) (c .position) (table.pieces (r .pieces))
+      unfolding view cashPrice settlementPrice
+      cash-price reference longs own same = rw (own, same, t .classed, t .latest)
+
+      module _ (price : ℕ) (same : price ≡ settlementPrice (view b) (c .position) (table.pieces (r .pieces))) (x : Pieces) (g : Priced (r .pieces) price x) where
         priced-is : table.pieces x ≡ handsOut (view b) (event.Cash c)
-        unfolding view handsOut
-        priced-is =
-            rw (t .classed, t .latest, unpriced-is) at (g .priced)
-            ∙ priced-pieces (view b) (c .position) (dealt (view b) manner.Cash (c .position) (settledShort .unsettled)) (cash-deals .shorts)
+        unfolding handsOut
+        priced-is = rw (same, unpriced-is) at (g .priced)
 
         charges-is : cashChargesBy latest (table.positions (b .positions)) (c .position) (table.pieces x) ≡ charges (view b) (event.Cash c)
         unfolding view charges cashCharges
@@ -365,7 +367,7 @@ module _ (b : Kept) (v : Valid b) (c : Cash) where
         cash-lowers =
             f .positions
             ∙ ap (λ (u : ℕ). lowering (dealt (view b) manner.Cash (c .position) u) (table.positions (b .positions))) (t .unsettled)
-            ∙ sym (lowering-priced (view b) (dealt (view b) manner.Cash (c .position) (settledShort .unsettled)) (table.positions (b .positions)))
+            ∙ sym (lowering-priced _ (dealt (view b) manner.Cash (c .position) (settledShort .unsettled)) (table.positions (b .positions)))
 
         pub settled : (l : Ledger) → l ≡ posted (b .ledger) (cashChargesBy latest (table.positions (b .positions)) (c .position) (table.pieces x)) → Done b (event.Cash c) (after b (r .positions) (b .awards) l) units x
         unfolding view done discharged amount

@@ -1,5 +1,5 @@
--- Lists: a choice, a sum, a range, a list made of lists, a list whose elements are numbered.
-use Prim.Native.Nat.{ℕ, zero, suc, _+_}
+-- Lists: a choice, a sum, the highest number, a range, a list made of lists, a list whose elements are numbered.
+use Prim.Native.Nat.{ℕ, zero, suc, _+_, max}
 use mathlib.Core.List.{List, [], _∷_, _++_}
 use mathlib.Core.Bool.{Bool, true, false, _&&_, _||_}
 
@@ -12,6 +12,11 @@ only false n = 0
 abbrev pub range : ℕ → ℕ → List ℕ
 range a zero = []
 range a (suc n) = a ∷ range (suc a) n
+
+-- the highest of the numbers, 0 where there is none
+abbrev pub highest : List ℕ → ℕ
+highest [] = 0
+highest (x ∷ xs) = max x (highest xs)
 
 module _ {A : Type 0} where
   -- x before the rest where the test passes, else the rest alone

@@ -49,9 +49,6 @@ module _ (count day : ℕ) (ps : List Position) (h : All (Fair count day) ps) wh
       (λ p f. record { member = omega (arith, f .member .below); security = record { above = f .security .above; below = omega (arith, f .security .below) } })
       h
 
-  pub all-references : All (λ p. p .reference ≤ 10000000) ps
-  all-references = all-of (Fair count day) (λ p. p .reference ≤ 10000000) ps (λ p f. f .reference .below) h
-
 pub all-awarded : (b : Book) → AuctionedBook b → All (Awarded (length (b .positions))) (b .awards)
 all-awarded b h =
     all-of (λ a. AwardFits a × (marked (b .marks) (a .position) ≡ true)) (Awarded (length (b .positions))) (b .awards)

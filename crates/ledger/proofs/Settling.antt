@@ -1,33 +1,22 @@
--- The pieces of a cash settlement: a table of them that is priced in place, their payments and the fee.
-use Prim.Native.Nat.{ℕ, _+_, _-_, _*_, _≤_, _<_}
+-- The pieces of a cash settlement: a table of them that is gone over for the highest number, and one that is priced in place and paid for.
+use Prim.Native.Nat.{ℕ, _+_, _-_, _*_, _≤_, _<_, max}
 use native.Mathlib.Omega.{arith}
-use native.Mathlib.Nat.{mul-le-mul}
 use native.Mathlib.Numerals.{add-one}
 use mathlib.Core.Path.{_≡_, refl, ap, sym, _∙_, subst}
 use mathlib.Core.List.{List, [], _∷_, _++_, map, append-assoc, append-nil}
-use mathlib.Core.Bool.{Bool, true, false, cond}
 use lib.ListN.{length, getD, take, drop, set, length-set}
 use lib.Seq.{take-suc-set, take-set-lt, drop-set-lt}
-use lib.Dec.{eqb}
-use Rattle.rules.specs.Prices.{raised, cashPrice}
-use Rattle.plain.specs.declared.Piece.{Piece}
-use Rattle.plain.specs.Book.{noPosition}
-use Rattle.plain.specs.Charging.{payment, pricedBy}
-use Rattle.tables.specs.Tables.{Positions, positions}
-use Rattle.ledger.specs.Tabled.{Paired}
-use Rattle.ledger.proofs.Elements.{ahead-at, ahead-end, position-at}
-use Prim.Native.Nat.{ℕ, _-_, _*_}
-use mathlib.Core.Path.{_≡_}
-use mathlib.Core.List.{[], _∷_}
-use lib.ListN.{getD}
-use Rattle.rules.specs.Prices.{cashPrice}
+use Rattle.laws.specs.Lists.{highest}
 use Rattle.plain.specs.declared.Position.{Position}
+use Rattle.plain.specs.declared.Piece.{Piece}
 use Rattle.plain.specs.declared.Manner.the-variants.{Cash}
-use Rattle.plain.specs.Charging.{payment}
-use Rattle.tables.specs.Tables.{Positions, positions}
+use Rattle.plain.specs.Book.{noPosition}
+use Rattle.plain.specs.Charging.{payment, pricedAt}
+use Rattle.tables.specs.Tables.{Positions}
 use Rattle.pieces.specs.Sheet.{unpriced, withCents}
-use Rattle.ledger.proofs.Elements.{position-at}
-use Rattle.ledger.specs.Settling.{paymentBy, Owed}
+use Rattle.ledger.specs.Tabled.{Paired}
+use Rattle.ledger.specs.Settling.{paymentAt, OwedBy}
+use Rattle.ledger.proofs.Elements.{ahead-at, ahead-end, position-at}
 
 -- the first n elements of a table, of which those before place i have been changed by f and the rest is as it was
 module _ {A : Type 0} (f : A → A) (n : ℕ) (items : List A) where
@@ -64,33 +53,31 @@ module _ {A : Type 0} (f : A → A) (n : ℕ) (items : List A) where
         let all : i ≡ n = omega arith in
         ap (λ (k : ℕ). take k l) (sym all) ∙ sym (append-nil (take i l)) ∙ (rw (ahead-end n items i long done) at (h .same))
 
--- what a unit costs in cash fits, and so does a piece
-cond-most : (t : Bool) (x y m : ℕ) → x ≤ m → y ≤ m → cond t x y ≤ m
-cond-most true x y m h k = h
-cond-most false x y m h k = k
+-- the highest number that f makes of the first n elements of a table, so far as the elements before place i go
+module _ {A : Type 0} (f : A → ℕ) (n : ℕ) (items : List A) where
+  abbrev pub Highest : ℕ → ℕ → Type 0
+  Highest i m = max m (highest (map f (drop i (take n items)))) ≡ highest (map f (take n items))
 
-raised-most : (class latest : ℕ) → latest ≤ 10000000 → raised class latest ≤ 20000000
-unfolding raised
-raised-most class latest h =
-    cond-most (eqb class 1) _ _ _ (omega arith) (cond-most (eqb class 2) _ _ _ (omega arith) (cond-most (eqb class 3) _ _ _ (omega arith) (omega arith)))
+  module _ (long : n ≤ length items) (i m : ℕ) (h : Highest i m) where
+    pub highest-one : (d : A) (k : ℕ) → i < n → k ≡ max m (f (getD items i d)) → Highest (i + 1) k
+    highest-one d k less e =
+        let here : max m (max (f (getD items i d)) (highest (map f (drop (i + 1) (take n items))))) ≡ highest (map f (take n items)) = rw (ahead-at n items d i long less) at h in
+        omega (arith, here, e)
 
-pub piece-fits : (quantity class short long latest price : ℕ) → quantity < 4294967296 → short ≤ 10000000 → long ≤ 10000000 → latest ≤ 10000000 → price ≡ cashPrice class short long latest → quantity * price < 18446744073709551616
-unfolding cashPrice
-piece-fits quantity class short long latest price q s l h e =
-    let small : price ≤ 20000000 = omega (arith, raised-most class latest h) in
-    let few : quantity ≤ 4294967296 = omega arith in
-    let product : quantity * price ≤ 4294967296 * 20000000 = mul-le-mul few small in
-    omega arith
+    pub highest-end : n ≤ i → m ≡ highest (map f (take n items))
+    highest-end done =
+        let here : max m 0 ≡ highest (map f (take n items)) = rw (ahead-end n items i long done) at h in
+        omega (arith, here)
 
 abbrev pub noPiece : Piece
 noPiece = unpriced Cash 0 0 0
 
-module _ (p : Positions) (short : Position) (class latest : ℕ) (x : Piece) (long : Position) (units price : ℕ) (h : Paired (p .count) x) (o : Owed p short x)
-    (l : long ≡ getD (p .items) (x .long - 1) noPosition) (u : units ≡ x .quantity) (e : price ≡ cashPrice class (short .reference) (long .reference) latest) where
-  pub priced-here : withCents (units * price) x ≡ pricedBy class latest (positions p) x
-  unfolding pricedBy
-  priced-here = rw (o .reference, position-at p (x .long) (h .long), e, l, u)
+module _ (p : Positions) (payer price : ℕ) (x : Piece) (long : Position) (units : ℕ) (h : Paired (p .count) x) (o : OwedBy payer p x)
+    (l : long ≡ getD (p .items) (x .long - 1) noPosition) (u : units ≡ x .quantity) where
+  pub priced-here : withCents (units * price) x ≡ pricedAt price x
+  unfolding pricedAt
+  priced-here = rw u
 
-  pub payment-here : paymentBy class latest p x ≡ record { payer = short .member; payee = long .member; cents = units * price } ∷ []
-  unfolding payment pricedBy
-  payment-here = rw (o .member, o .reference, position-at p (x .long) (h .long), e, l, u)
+  pub payment-here : paymentAt price p x ≡ record { payer = payer; payee = long .member; cents = units * price } ∷ []
+  unfolding payment pricedAt
+  payment-here = rw (o, position-at p (x .long) (h .long), l, u)

@@ -1,16 +1,15 @@
--- The charges of a close and of a cash settlement, over the parts of the machine's book that they go by, and that they are the plain book's.
+-- The charges of a close, over the parts of the machine's book that they go by, and that they are the plain book's.
 use Prim.Native.Nat.{ℕ}
-use mathlib.Core.Path.{_≡_, refl}
-use mathlib.Core.List.{List, [], _∷_, _++_, map}
+use mathlib.Core.Path.{_≡_}
+use mathlib.Core.List.{List, _++_}
 use Rattle.laws.specs.declared.BusinessDay.{BusinessDay}
-use Rattle.laws.specs.Lists.{each, All}
+use Rattle.laws.specs.Lists.{each}
 use Rattle.register.specs.declared.Register.{Register}
 use Rattle.plain.specs.declared.Latest.{Latest}
 use Rattle.plain.specs.declared.Position.{Position}
-use Rattle.plain.specs.declared.Piece.{Piece}
-use Rattle.plain.specs.Book.{Book, new, positionOf, classOf, latestOf}
+use Rattle.plain.specs.Book.{Book, new}
 use Rattle.plain.specs.Changing.{withDay, withPrices, withPositions}
-use Rattle.plain.specs.Charging.{Charge, pricedBy, priced, awardFines, lateFines, closeCharges}
+use Rattle.plain.specs.Charging.{Charge, awardFines, lateFines, closeCharges}
 use Rattle.tables.specs.Tables as table
 use Rattle.tables.specs.Tables.{Positions, Awards, positions, awards}
 use Rattle.tables.specs.declared.Prices.{Prices}
@@ -53,12 +52,3 @@ module _
     pub close-charges : (day : BusinessDay) → b .day ≡ day .0 → closeChargesOf a p prices register day ≡ closeCharges b
     unfolding closeChargesOf closeCharges
     close-charges day day-same = rw (award-fines, late-fines day day-same)
-
--- Cash settlement
-
--- the pieces of one short are priced alike by the class and the latest price of its security
-pub priced-pieces : (b : Book) (n : ℕ) (xs : List Piece) → All (λ x. x .short ≡ n) xs
-    → map (pricedBy (classOf b (positionOf b n .security)) (latestOf b (positionOf b n .security)) (b .positions)) xs ≡ map (priced b) xs
-unfolding pricedBy priced
-priced-pieces b n [] h = refl
-priced-pieces b n (x ∷ xs) h = rw (priced-pieces b n xs (h .1), ← h .0)

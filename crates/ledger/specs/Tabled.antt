@@ -1,9 +1,9 @@
 -- What posting asks of the tables that it reads, each of which every plain book has.
-use Prim.Native.Nat.{ℕ, _≤_, _<_}
+use Prim.Native.Nat.{ℕ, _<_}
 use mathlib.Core.Path.{_≡_}
 use mathlib.Core.List.{[], _∷_, map}
 use lib.ListN.{length}
-use Rattle.laws.specs.Limits.{ACCOUNTS, MOST-PRICE, SECURITIES}
+use Rattle.laws.specs.Limits.{ACCOUNTS, SECURITIES}
 use Rattle.laws.specs.declared.BusinessDay.{BusinessDay}
 use Rattle.laws.specs.Lists.{All}
 use Rattle.register.specs.declared.Register.{Register}
@@ -11,7 +11,7 @@ use Rattle.plain.specs.declared.Position.{Position}
 use Rattle.plain.specs.declared.Piece.{Piece}
 use Rattle.plain.specs.declared.Award.{Award}
 use Rattle.plain.specs.declared.Ledger.{Ledger}
-use Rattle.plain.specs.Charging.{Charge, pricedBy}
+use Rattle.plain.specs.Charging.{Charge, pricedAt}
 use Rattle.laws.specs.Asked.{Within}
 use Rattle.plain.specs.Sound.{Booked}
 use Rattle.tables.specs.Tables as table
@@ -65,14 +65,12 @@ pub record Paired (held : ℕ) (x : Piece) : Type 0 where
   pub long : Within 1 held (x .long)
 
 -- what pricing pieces asks and gives; places past the count are free
-pub record Priceable (xs : Pieces) (p : Positions) (latest : ℕ) : Type 0 where
-  pub price : latest ≤ MOST-PRICE
+pub record Priceable (xs : Pieces) (p : Positions) : Type 0 where
   pub positions-fit : PositionsFit p
-  pub references : All (λ q. q .reference ≤ MOST-PRICE) (positions p)
   pub pieces-fit : PiecesFit xs
   pub paired : All (Paired (p .count)) (pieces xs)
 
-pub record Priced (xs : Pieces) (p : Positions) (class latest : ℕ) (r : Pieces) : Type 0 where
+pub record Priced (xs : Pieces) (price : ℕ) (r : Pieces) : Type 0 where
   pub many : r .count ≡ xs .count
-  pub priced : pieces r ≡ map (pricedBy class latest (positions p)) (pieces xs)
+  pub priced : pieces r ≡ map (pricedAt price) (pieces xs)
   pub fit : PiecesFit r

@@ -2,19 +2,19 @@
 // ledger's columns where they stand. The tables that charges go by are numbers that a caller lends.
 ghost use mathlib.Core.Path.{_≡_};
 ghost use mathlib.Core.Bool.{not, _&&_};
-ghost use mathlib.Core.List.{[], _∷_, _++_};
+ghost use mathlib.Core.List.{[], _∷_};
 ghost use Prim.Native.Nat.{_+_, _<_, _≤_};
 ghost use lib.Dec.{eqb, ltb};
 ghost use lib.ListN.{length, getD};
 ghost use Rattle.laws.specs.Limits.{ACCOUNTS};
 ghost use Rattle.rules.specs.Charges.{buyInCharge};
 ghost use Rattle.plain.specs.declared.Manner.the-variants.{Cash};
-ghost use Rattle.plain.specs.Charging.{raise, posted, charge, feeOf};
+ghost use Rattle.plain.specs.Charging.{raise, posted, charge};
 ghost use Rattle.plain.specs.Dealing.{due};
 ghost use Rattle.ledger.specs.Parts.{awardFinesOf, lateFinesOf, closeChargesOf};
-ghost use Rattle.ledger.specs.Tabled.{Chargeable, AwardsFinable, LateFinable, CloseFinable, Priced};
+ghost use Rattle.ledger.specs.Tabled.{Chargeable, AwardsFinable, LateFinable, CloseFinable, Priceable, Priced};
 ghost use Rattle.tables.specs.Lent.{positionTable, awardTable, pieceTable};
-ghost use Rattle.ledger.specs.Settling.{paymentsBy, Settleable};
+ghost use Rattle.ledger.specs.Settling.{highestLong, priceOf, paymentsAt, settlementOf, Settleable};
 use laws::ACCOUNTS;
 use laws::BusinessDay;
 use plain::Ledger;
@@ -159,19 +159,38 @@ pub fn post_close(
     post_late_fines(fined, rows, held, prices, register, day)
 }
 
-// The pieces of a short that is settled in cash get their cents and are paid for, in one pass over the lent sheet.
-pub fn post_payments(
+// The first pass of a cash settlement over its pieces: the highest reference price among their longs.
+fn highest_reference(rows: &[u32; 10240], held: usize, sheet: &[u64; 4096], dealt: usize) -> u32
+    requires { ⌜ Priceable (pieceTable Cash (now sheet) dealt) (positionTable (now rows) held) ⌝ }
+    ensures { λ r. ⌜ r ≡ highestLong (positionTable (now (rows .entry)) held) (pieceTable Cash (now (sheet .entry)) dealt) ⌝ }
+{
+    let mut highest: u32 = 0;
+    let mut i: usize = 0;
+    while i < dealt {
+        let number = pieces::long_at(sheet, i);
+        let place = (number - 1) as usize;
+        let long = rows::row_at(rows, place);
+        let reference = long.reference;
+        if highest < reference {
+            highest = reference;
+        }
+        i += 1;
+    }
+    highest
+}
+
+// The second pass: each piece gets its cents at the price of the settlement and is paid for, on the lent sheet.
+fn post_payments(
     ledger: Ledger,
     rows: &[u32; 10240],
     held: usize,
     sheet: &mut [u64; 4096],
     dealt: usize,
-    short: Position,
-    class: u8,
-    latest: u32,
+    payer: u8,
+    price: u64,
 ) -> Ledger
-    requires { ⌜ (Settleable ledger (paymentsBy class latest (positionTable (now rows) held) (pieceTable Cash (now sheet) dealt)) (positionTable (now rows) held) (pieceTable Cash (now sheet) dealt) short latest) × (length (now sheet) ≡ 4096) ⌝ }
-    ensures { λ r. ⌜ (Priced (pieceTable Cash (now (sheet .entry)) dealt) (positionTable (now (rows .entry)) held) class latest (pieceTable Cash (now (sheet .exit)) dealt)) × (r ≡ posted ledger (paymentsBy class latest (positionTable (now (rows .entry)) held) (pieceTable Cash (now (sheet .entry)) dealt))) × (length (now (sheet .exit)) ≡ 4096) ⌝ }
+    requires { ⌜ (Settleable ledger (paymentsAt price (positionTable (now rows) held) (pieceTable Cash (now sheet) dealt)) (positionTable (now rows) held) (pieceTable Cash (now sheet) dealt) payer) × (length (now sheet) ≡ 4096) ⌝ }
+    ensures { λ r. ⌜ (Priced (pieceTable Cash (now (sheet .entry)) dealt) price (pieceTable Cash (now (sheet .exit)) dealt)) × (r ≡ posted ledger (paymentsAt price (positionTable (now (rows .entry)) held) (pieceTable Cash (now (sheet .entry)) dealt))) × (length (now (sheet .exit)) ≡ 4096) ⌝ }
 {
     let mut after = ledger;
     let mut i: usize = 0;
@@ -180,17 +199,16 @@ pub fn post_payments(
         let units = pieces::units_at(sheet, i);
         let place = (number - 1) as usize;
         let long = rows::row_at(rows, place);
-        let price = rules::cash_price(class, short.reference, long.reference, latest);
         let cents = (units as u64) * price;
         pieces::put_cents(sheet, i, cents);
         raise_place(&mut after.credits, long.member, cents);
-        raise_place(&mut after.debits, short.member, cents);
+        raise_place(&mut after.debits, payer, cents);
         i += 1;
     }
     after
 }
 
-// The payments, and the fee of the short, which is given as it was before the settlement.
+// The payments at the one price of the settlement, and the fee of the short, which is given as it was before the settlement.
 pub fn post_cash(
     ledger: Ledger,
     rows: &[u32; 10240],
@@ -201,10 +219,12 @@ pub fn post_cash(
     class: u8,
     latest: u32,
 ) -> Ledger
-    requires { ⌜ (Settleable ledger (paymentsBy class latest (positionTable (now rows) held) (pieceTable Cash (now sheet) dealt) ++ feeOf short latest ∷ []) (positionTable (now rows) held) (pieceTable Cash (now sheet) dealt) short latest) × (length (now sheet) ≡ 4096) ⌝ }
-    ensures { λ r. ⌜ (Priced (pieceTable Cash (now (sheet .entry)) dealt) (positionTable (now (rows .entry)) held) class latest (pieceTable Cash (now (sheet .exit)) dealt)) × (r ≡ posted ledger (paymentsBy class latest (positionTable (now (rows .entry)) held) (pieceTable Cash (now (sheet .entry)) dealt) ++ feeOf short latest ∷ [])) × (length (now (sheet .exit)) ≡ 4096) ⌝ }
+    requires { ⌜ (Settleable ledger (settlementOf class latest short (positionTable (now rows) held) (pieceTable Cash (now sheet) dealt)) (positionTable (now rows) held) (pieceTable Cash (now sheet) dealt) (short .member)) × (length (now sheet) ≡ 4096) ⌝ }
+    ensures { λ r. ⌜ (Priced (pieceTable Cash (now (sheet .entry)) dealt) (priceOf class latest short (positionTable (now (rows .entry)) held) (pieceTable Cash (now (sheet .entry)) dealt)) (pieceTable Cash (now (sheet .exit)) dealt)) × (r ≡ posted ledger (settlementOf class latest short (positionTable (now (rows .entry)) held) (pieceTable Cash (now (sheet .entry)) dealt))) × (length (now (sheet .exit)) ≡ 4096) ⌝ }
 {
+    let long = highest_reference(rows, held, sheet, dealt);
+    let price = rules::cash_price(class, short.reference, long, latest);
+    let paid = post_payments(ledger, rows, held, sheet, dealt, short.member, price);
     let fee = rules::cash_fee(rules::value_of(short.unsettled, latest));
-    let paid = post_payments(ledger, rows, held, sheet, dealt, short, class, latest);
     post(paid, short.member, HOUSE, fee)
 }

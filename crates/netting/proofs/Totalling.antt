@@ -16,7 +16,7 @@ use Rattle.laws.specs.Alls.{all-at}
 use Rattle.laws.specs.Asked.{Said, passed, failed, ask, and-left, and-right, both}
 use Rattle.events.specs.declared.Trade.{Trade}
 use Rattle.rows.specs.Rows.{noTrade}
-use Rattle.plain.specs.Netting.{Key, units, highest}
+use Rattle.plain.specs.Netting.{Key, units, highestPrice}
 use Rattle.plain.specs.Invariants.{TradeFits, KeyFits}
 use Rattle.plain.proofs.Netted.{units-le}
 use Rattle.tables.specs.Tables.{Trades, today}
@@ -39,8 +39,8 @@ module _ (test : Trade → Bool) where
   unfolding units
   units-last ts t = omega (arith, sum-append (λ t. only (test t) (t .quantity)) ts (t ∷ []))
 
-  highest-last : (ts : List Trade) (t : Trade) → highest test (ts ++ t ∷ []) ≡ max (highest test ts) (only (test t) (t .price))
-  unfolding highest
+  highest-last : (ts : List Trade) (t : Trade) → highestPrice test (ts ++ t ∷ []) ≡ max (highestPrice test ts) (only (test t) (t .price))
+  unfolding highestPrice
   highest-last [] t = omega arith
   highest-last (x ∷ ts) t = omega (arith, highest-last ts t)
 
@@ -108,7 +108,7 @@ module _ (trades : Trades) (g : Gatherable trades) where
       ∙ getD-take (trades .count) (trades .items) i noTrade k
 
   pub totalling-start : (xs : List ℕ) → xs ≡ noTotals → Totalling trades (trades .netted) xs
-  unfolding noTotals units highest
+  unfolding noTotals units highestPrice
   totalling-start xs none =
       let e : trades .netted - trades .netted ≡ 0 = omega arith in
       record {

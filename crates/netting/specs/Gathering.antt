@@ -9,7 +9,7 @@ use Rattle.laws.specs.Limits.{MOST-NETTED, MOST-QUANTITY, SECURITIES}
 use Rattle.laws.specs.Lists.{All}
 use Rattle.cells.specs.Table.{tableFrom}
 use Rattle.events.specs.declared.Trade.{Trade}
-use Rattle.plain.specs.Netting.{Key, units, highest}
+use Rattle.plain.specs.Netting.{Key, units, highestPrice}
 use Rattle.plain.specs.Invariants.{TradeFits, KeyFits}
 use Rattle.tables.specs.Tables.{Trades, today, TradesFit}
 use Rattle.netting.specs.declared.Side.{Side}
@@ -56,7 +56,7 @@ abbrev pub tradedBy : Side → Key → Trade → Bool
 tradedBy side k t = eqb (partyOf side t) (k .member) && eqb (t .security) (k .security)
 
 abbrev pub totalOf : Side → Key → List Trade → Total
-totalOf side k trades = record { units = units (tradedBy side k) trades; highest = highest (tradedBy side k) trades }
+totalOf side k trades = record { units = units (tradedBy side k) trades; highest = highestPrice (tradedBy side k) trades }
 
 -- one more trade in a total, and in the total of its key
 abbrev pub added : Trade → Total → Total

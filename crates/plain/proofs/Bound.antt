@@ -3,7 +3,7 @@
 use Prim.Native.Nat.{ℕ, _+_, _-_, _*_, _/_, _≤_, _<_, max}
 use native.Mathlib.Nat.{mul-le-mul, mul-le-mul-left}
 use native.Mathlib.Omega.{arith}
-use mathlib.Core.Path.{_≡_, refl, ap}
+use mathlib.Core.Path.{_≡_, ap}
 use mathlib.Core.Logic.{_≢_}
 use mathlib.Core.List.{List, [], _∷_, map}
 use mathlib.Core.Bool.{Bool, true, false, not, _&&_, cond}
@@ -12,12 +12,13 @@ use lib.Dec.{ltb, leb, eqb}
 use Rattle.laws.specs.Lists.{only, sum, each, All}
 use Rattle.laws.specs.Listed.{sum-append}
 use Rattle.laws.specs.Sums.{only-le, sum-same-all, sum-each, sum-keep}
-use Rattle.laws.specs.Alls.{all-of, all-any}
+use Rattle.laws.specs.Alls.{all-of, all-any, all-map}
+use Rattle.laws.specs.Highest.{highest-most}
 use Rattle.laws.specs.Integers.{total, place-le, sum-at-most, sum-times, sub-magnitude}
 use Rattle.rules.specs.declared.Amount.{Amount}
 use Rattle.rules.specs.declared.Amount.the-variants.{Debit, Credit}
 use Rattle.rules.specs.Classes.{byClass}
-use Rattle.rules.specs.Prices.{raised, cashPrice}
+use Rattle.rules.specs.Prices.{raised, cashTerms, cashPrice}
 use Rattle.rules.specs.Charged.{buy-in-amount}
 use Rattle.rules.specs.Charges.{roundedHalfUp, fee, cashFee, awardFine, lateFine, buyInCharge}
 use Rattle.events.specs.declared.Trade.{Trade}
@@ -33,7 +34,7 @@ use Rattle.plain.specs.declared.Ledger.{Ledger}
 use Rattle.plain.specs.Book.{Book, new, noPosition, noAward, noPrice, positionOf, awardOf, classOf, latestOf}
 use Rattle.plain.specs.Netting.{keys, netted}
 use Rattle.plain.specs.Dealing.{due, lowering}
-use Rattle.plain.specs.Charging.{Charge, posted, charge, buyInCharges, priced, payment, cashCharges, awardFines, lateFines, closeCharges, pricedBy, cashChargesBy, feeOf}
+use Rattle.plain.specs.Charging.{Charge, posted, charge, buyInCharges, longReferences, settlementPrice, pricedAt, payment, cashCharges, awardFines, lateFines, closeCharges, cashChargesBy, feeOf}
 use Rattle.plain.specs.Calls.{Call, call, dealt, discharged, handsOut, charges, done}
 use Rattle.plain.specs.Refusals.{refusal}
 use Rattle.plain.specs.Histories.{eventOf, run, balance}
@@ -84,11 +85,12 @@ cash-fee-most : (value : ℕ) → cashFee value ≤ 100000
 unfolding cashFee fee
 cash-fee-most value = omega arith
 
-cash-price-most : (class short long latest : ℕ) → short ≤ 10000000 → long ≤ 10000000 → latest ≤ 10000000 → cashPrice class short long latest ≤ 20000000
+cash-price-most : (class short latest : ℕ) (longs : List ℕ) → short ≤ 10000000 → All (λ long. long ≤ 10000000) longs → latest ≤ 10000000 → cashPrice class short longs latest ≤ 20000000
 unfolding cashPrice raised
-cash-price-most class short long latest h k l =
+cash-price-most class short latest longs h k l =
     let most : byClass class (2 * latest) (2 * latest) (latest + 300) 0 ≤ 20000000 = class-each (λ n. n ≤ 20000000) class _ _ _ _ (omega arith) (omega arith) (omega arith) (omega arith) in
-    omega arith
+    highest-most 20000000 (cashTerms class short longs latest)
+    (omega arith, (most, all-of (λ long. long ≤ 10000000) (λ long. long ≤ 20000000) longs (λ long g. omega (arith, g)) k))
 
 buy-in-most : (member quantity price reference : ℕ) → price ≤ 10000000 → reference ≤ 10000000 → charge member (buyInCharge quantity price reference) .cents ≤ 10000000 * quantity
 unfolding charge
@@ -129,23 +131,23 @@ module _ (b : Book) (h : Bounding b) where
       omega (arith, buy-in-most (positionOf b (a .position) .member) (a .quantity) (a .price) (positionOf b (a .position) .reference) (award-price-most (c .award)) (reference-most (a .position)))
 
   -- a cash settlement at most 20,000,000 cents a unit, and its fee
-  priced-most : (x : Piece) → priced b x .cents ≤ 20000000 * x .quantity
-  unfolding priced pricedBy
-  priced-most x =
-      let short = positionOf b (x .short) in
-      let long = positionOf b (x .long) in
-      omega (
-        arith,
-        mul-le-mul-left (x .quantity) (cash-price-most (classOf b (short .security)) (short .reference) (long .reference) (latestOf b (short .security)) (reference-most (x .short)) (reference-most (x .long)) (latest-most (short .security))),
-      )
+  settlement-most : (n : ℕ) (xs : List Piece) → settlementPrice b n xs ≤ 20000000
+  unfolding settlementPrice cashPrice
+  settlement-most n xs =
+      let short = positionOf b n in
+      cash-price-most (classOf b (short .security)) (short .reference) (latestOf b (short .security)) (longReferences (b .positions) xs) (reference-most n)
+      (all-map (λ long. long ≤ 10000000) (λ x. positionOf b (x .long) .reference) (λ x. Unit {0}) xs (λ x u. reference-most (x .long)) (all-any (λ x. Unit {0}) xs (λ x. tt)))
+      (latest-most (short .security))
 
-  payments-most : (xs : List Piece) → cents (map (payment (b .positions)) (map (priced b) xs)) ≤ 20000000 * sum (λ x. x .quantity) (map (priced b) xs)
-  unfolding payment
-  payments-most [] = omega arith
-  payments-most (x ∷ xs) = omega (arith, payments-most xs, priced-most x, same-quantity)
-    where
-      same-quantity : priced b x .quantity ≡ x .quantity
-      same-quantity = unfold priced in unfold pricedBy in refl
+  payments-most : (price : Piece → ℕ) → ((x : Piece) → price x ≤ 20000000) → (xs : List Piece)
+      → cents (map (payment (b .positions)) (map (λ x. pricedAt (price x) x) xs)) ≤ 20000000 * sum (λ x. x .quantity) (map (λ x. pricedAt (price x) x) xs)
+  unfolding payment pricedAt
+  payments-most price h [] = omega arith
+  payments-most price h (x ∷ xs) = omega (arith, payments-most price h xs, mul-le-mul-left (x .quantity) (h x))
+
+  cash-paid : (c : asked.Cash) → cents (map (payment (b .positions)) (handsOut b (event.Cash c))) ≤ 20000000 * sum (λ x. x .quantity) (handsOut b (event.Cash c))
+  unfolding handsOut
+  cash-paid c = payments-most _ (λ x. settlement-most (c .position) _) (dealt b Cash (c .position) (positionOf b (c .position) .unsettled))
 
   cash-cents : (c : asked.Cash) → Dealt b (event.Cash c) → cents (charges b (event.Cash c)) ≤ 20000000 * positionOf b (c .position) .unsettled + 100000
   unfolding charges cashCharges cashChargesBy
@@ -154,13 +156,10 @@ module _ (b : Book) (h : Bounding b) where
       omega (
         arith,
         sum-append (λ (c : Charge). c .cents) (map (payment (b .positions)) xs) (feeOf (positionOf b (c .position)) (latestOf b (positionOf b (c .position) .security)) ∷ []),
-        paid,
+        cash-paid c,
         d .total,
         cash-fee-most (positionOf b (c .position) .unsettled * latestOf b (positionOf b (c .position) .security)),
       )
-    where
-      paid : cents (map (payment (b .positions)) (handsOut b (event.Cash c))) ≤ 20000000 * sum (λ x. x .quantity) (handsOut b (event.Cash c))
-      paid = unfold handsOut in payments-most (dealt b Cash (c .position) (positionOf b (c .position) .unsettled))
 
   -- a close at most 4·10^9 cents an award and 1,000 cents a unit
   award-cents : (a : Award) → AwardFits a → cents (awardFines b a) ≤ 4000000000

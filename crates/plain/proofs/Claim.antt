@@ -12,7 +12,7 @@ use Rattle.plain.specs.Sound.{Sound}
 use Rattle.plain.proofs.Sound.{done-sound, new-sound, sound, sound-dealt}
 use Rattle.plain.proofs.Tally.{tally}
 use Rattle.plain.specs.Claim.{Claim}
-use Rattle.plain.proofs.Discharges.{discharge, refused}
+use Rattle.plain.proofs.Discharges.{discharge, one-price, refused}
 use Rattle.plain.proofs.Accounts.{Accountable, accounts, accounts-zero}
 use Rattle.plain.proofs.Bound.{Bounding, accounts-small}
 
@@ -48,5 +48,6 @@ claim opening cs =
       holds = h;
       discharges = λ c e s. discharge (run (new opening) cs) c h e s;
       fresh = λ c s e k. given-today (run (new opening) cs) c s (h .standing .prices) e k;
+      one-price = one-price (run (new opening) cs);
       refuses = refused (run (new opening) cs);
     }

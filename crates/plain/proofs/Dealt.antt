@@ -17,7 +17,7 @@ use Rattle.plain.specs.declared.Piece.{Piece}
 use Rattle.plain.specs.declared.Manner.{Manner}
 use Rattle.plain.specs.Book.{Book, noPosition, positionOf}
 use Rattle.plain.specs.Dealing.{due, longOf, Taker, longsOn, takers, share, dealTo}
-use Rattle.plain.specs.Charging.{priced, pricedBy}
+use Rattle.plain.specs.Charging.{pricedAt}
 use Rattle.plain.specs.Calls.{dealt}
 use Rattle.plain.specs.Invariants.{dueShort, dueLong, openOf, Even, DueLong, asLong, Dealable, Deals}
 use Rattle.plain.proofs.Numbered.{place-nth, sum-named}
@@ -212,15 +212,16 @@ deals b m n q even f =
     ts : List Taker
     ts = takers (b .day) s (b .positions)
 
--- Pricing changes no short, long, quantity or manner
-pub deals-priced : (b : Book) (m : Manner) (n q : ℕ) (xs : List Piece) → Deals b m n q xs → Deals b m n q (map (priced b) xs)
-unfolding priced pricedBy
-deals-priced b m n q xs f =
+-- Pricing changes no short, long, quantity or manner, whatever the price of each piece is
+pub deals-priced : (b : Book) (m : Manner) (n q : ℕ) (price : Piece → ℕ) (xs : List Piece) → Deals b m n q xs → Deals b m n q (map (λ x. pricedAt (price x) x) xs)
+unfolding pricedAt
+deals-priced b m n q price xs f =
     record {
       dealable = f .dealable;
-      shorts = all-map (λ x. x .short ≡ n) (priced b) (λ x. x .short ≡ n) xs (λ x h. h) (f .shorts);
-      manners = all-map (λ x. x .manner ≡ m) (priced b) (λ x. x .manner ≡ m) xs (λ x h. h) (f .manners);
-      longs = all-map (λ x. DueLong b (positionOf b n .security) (x .long)) (priced b) (λ x. DueLong b (positionOf b n .security) (x .long)) xs (λ x h. h) (f .longs);
-      fits = λ i h. omega (arith, sum-map (λ x. only (eqb (x .long) (suc i)) (x .quantity)) (priced b) xs, f .fits i h);
-      total = sum-map (λ x. x .quantity) (priced b) xs ∙ f .total;
+      shorts = all-map (λ x. x .short ≡ n) (λ x. pricedAt (price x) x) (λ x. x .short ≡ n) xs (λ x h. h) (f .shorts);
+      manners = all-map (λ x. x .manner ≡ m) (λ x. pricedAt (price x) x) (λ x. x .manner ≡ m) xs (λ x h. h) (f .manners);
+      longs =
+          all-map (λ x. DueLong b (positionOf b n .security) (x .long)) (λ x. pricedAt (price x) x) (λ x. DueLong b (positionOf b n .security) (x .long)) xs (λ x h. h) (f .longs);
+      fits = λ i h. omega (arith, sum-map (λ x. only (eqb (x .long) (suc i)) (x .quantity)) (λ x. pricedAt (price x) x) xs, f .fits i h);
+      total = sum-map (λ x. x .quantity) (λ x. pricedAt (price x) x) xs ∙ f .total;
     }

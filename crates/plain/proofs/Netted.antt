@@ -3,7 +3,7 @@ use Prim.Native.Nat.{ℕ, suc, _+_, _-_, _*_, _≤_, _<_, max}
 use native.Mathlib.Nat.{add-zero}
 use native.Mathlib.Omega.{arith}
 use mathlib.Core.Path.{_≡_, refl, ap, sym, _∙_}
-use mathlib.Core.List.{List, [], _∷_}
+use mathlib.Core.List.{List, [], _∷_, map}
 use mathlib.Core.Bool.{Bool, true, false, _&&_}
 use lib.ListN.{length}
 use lib.Dec.{ltb, eqb}
@@ -12,10 +12,11 @@ use Rattle.laws.specs.Lists.{only, keep, sum, each, range, All}
 use Rattle.laws.specs.Asked.{Said, passed, failed, ask, and-right, Within}
 use Rattle.laws.specs.Sums.{only-zero, only-le, sum-zero, sum-same, sum-le, sum-keep, sum-each, sum-swap, sum-add, sum-one, sum-once, length-each}
 use Rattle.laws.specs.Sums.{only-sum, sum-length}
-use Rattle.laws.specs.Alls.{all-any, all-keep, all-each, all-of, all-range}
+use Rattle.laws.specs.Alls.{all-any, all-keep, all-each, all-map, all-of, all-range}
+use Rattle.laws.specs.Highest.{highest-most}
 use Rattle.events.specs.declared.Trade.{Trade}
 use Rattle.plain.specs.declared.Position.{Position}
-use Rattle.plain.specs.Netting.{Key, keys, buys, sells, units, highest, made, net, netted, netOf}
+use Rattle.plain.specs.Netting.{Key, keys, buys, sells, units, highestPrice, made, net, netted, netOf}
 use Rattle.plain.specs.Dealing.{longOf}
 use Rattle.plain.specs.Invariants.{TradeFits, Fair, Whole, nettedOf, shortOn, longOn, KeyFits}
 
@@ -118,18 +119,18 @@ module _ (test : Trade → Bool) where
     units-le (t ∷ trades) h =
         omega (arith, h .0 .quantity .below, only-le (test t) (t .quantity), units-le trades (h .1))
 
-    pub highest-le : (trades : List Trade) → All (TradeFits count) trades → highest test trades ≤ 10000000
-    unfolding highest
-    highest-le [] h = omega arith
-    highest-le (t ∷ trades) h =
-        omega (arith, h .0 .price .below, only-le (test t) (t .price), highest-le trades (h .1))
+    pub highest-le : (trades : List Trade) → All (TradeFits count) trades → highestPrice test trades ≤ 10000000
+    unfolding highestPrice
+    highest-le trades h =
+        highest-most 10000000 (map (λ t. only (test t) (t .price)) trades)
+        (all-map (λ n. n ≤ 10000000) (λ t. only (test t) (t .price)) (TradeFits count) trades (λ t f. omega (arith, f .price .below, only-le (test t) (t .price))) h)
 
     -- where units were traded, there was a price
-    pub highest-ge : (trades : List Trade) → All (TradeFits count) trades → 0 < units test trades → 1 ≤ highest test trades
-    unfolding highest units
+    pub highest-ge : (trades : List Trade) → All (TradeFits count) trades → 0 < units test trades → 1 ≤ highestPrice test trades
+    unfolding highestPrice units
     highest-ge [] h k = k
     highest-ge (t ∷ trades) h k =
-        some-price (test t) (t .quantity) (t .price) (units test trades) (highest test trades) (h .0 .price .above) k
+        some-price (test t) (t .quantity) (t .price) (units test trades) (highestPrice test trades) (h .0 .price .above) k
         (λ u. highest-ge trades (h .1) u)
 
 -- THE NET OF ONE KEY
@@ -142,10 +143,10 @@ module _ (day : ℕ) (trades : List Trade) (k : Key) where
   boughtBy = units (buys k) trades
 
   abbrev pub shortMade : Position
-  shortMade = made day k true (soldBy - boughtBy) (highest (sells k) trades)
+  shortMade = made day k true (soldBy - boughtBy) (highestPrice (sells k) trades)
 
   abbrev pub longMade : Position
-  longMade = made day k false (boughtBy - soldBy) (highest (buys k) trades)
+  longMade = made day k false (boughtBy - soldBy) (highestPrice (buys k) trades)
 
   pub all-net : (P : Position → Type 0) → (boughtBy < soldBy → P shortMade) → (soldBy < boughtBy → P longMade) → All P (net day trades k)
   unfolding net netOf
@@ -192,7 +193,7 @@ netted-whole day trades ks = all-of (New day) Whole (netted day trades ks) (new-
 
 module _ (count day : ℕ) (trades : List Trade) (h : All (TradeFits count) trades) (l : length trades ≤ 512) where
   -- a position of more units of one kind than of the other
-  made-fair : (k : Key) (short : Bool) (these others : Trade → Bool) → KeyFits count k → units others trades < units these trades → Fair count (suc day) (made day k short (units these trades - units others trades) (highest these trades))
+  made-fair : (k : Key) (short : Bool) (these others : Trade → Bool) → KeyFits count k → units others trades < units these trades → Fair count (suc day) (made day k short (units these trades - units others trades) (highestPrice these trades))
   unfolding made
   made-fair k short these others f less =
       record {

@@ -39,7 +39,7 @@ module _ (b : Book) (even : Even (b .day) (b .positions)) (auctioned : Auctioned
       deals b manner.BoughtIn (a .position) (a .quantity) even (confirm-dealable b c (confirm-taken b c sheet e) auctioned)
   dealt-of (call (event.Cash c) sheet) e =
       let q = positionOf b (c .position) .unsettled in
-      deals-priced b manner.Cash (c .position) q (dealt b manner.Cash (c .position) q)
+      deals-priced b manner.Cash (c .position) q _ (dealt b manner.Cash (c .position) q)
       (deals b manner.Cash (c .position) q even (cash-dealable b c (cash-taken b c sheet e)))
   dealt-of (call event.Close sheet) e = tt
 

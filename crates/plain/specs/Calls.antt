@@ -16,7 +16,7 @@ use Rattle.plain.specs.Changing.{withDay, withPast, withTrades, withPric
 use Rattle.plain.specs.Netting.{keys, netted}
 use Rattle.plain.specs.Dealing.{takers, dealTo, lowering}
 use Rattle.plain.specs.Auction.{byPrice, awarded, confirmedAward}
-use Rattle.plain.specs.Charging.{Charge, posted, buyInCharges, priced, cashCharges, closeCharges}
+use Rattle.plain.specs.Charging.{Charge, posted, buyInCharges, settlementPrice, pricedAt, cashCharges, closeCharges}
 
 -- One of the nine calls: what an event says, with the length of the sheet that is lent. "of a sheet, its length"
 pub data Call : Type 0 where
@@ -46,7 +46,8 @@ handsOut b (event.Confirm c) =
     let a = awardOf b (c .award) in
     dealt b BoughtIn (a .position) (a .quantity)
 handsOut b (event.Cash c) =
-    map (priced b) (dealt b Cash (c .position) (positionOf b (c .position) .unsettled))
+    let xs = dealt b Cash (c .position) (positionOf b (c .position) .unsettled) in
+    map (pricedAt (settlementPrice b (c .position) xs)) xs
 handsOut b event.Close = []
 
 -- the charges that an accepted call books

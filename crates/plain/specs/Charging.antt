@@ -1,13 +1,13 @@
--- Document 01, 'Auction', 'Cash settlement' and 'Close': what each step charges. A charge goes from its payer to its payee.
+-- Document 01, 'Auction', 'Cash settlement' and 'Close', and document 02, Slip 4: what each step charges. A charge goes from its payer to its payee.
 use Prim.Native.Nat.{ℕ, _+_, _*_}
 use mathlib.Core.List.{List, [], _∷_, _++_, map}
 use mathlib.Core.Bool.{not, _&&_}
 use lib.ListN.{getD, set}
 use lib.Dec.{ltb, eqb}
-use Rattle.laws.specs.Lists.{only, keep, sum, each}
+use Rattle.laws.specs.Lists.{only, keep, sum, highest, each}
 use Rattle.rules.specs.declared.Amount.{Amount}
 use Rattle.rules.specs.declared.Amount.the-variants.{Debit, Credit}
-use Rattle.rules.specs.Prices.{cashPrice}
+use Rattle.rules.specs.Prices.{cashTerms}
 use Rattle.rules.specs.Charges.{cashFee, awardFine, lateFine, buyInCharge}
 use Rattle.plain.specs.declared.Position.{Position}
 use Rattle.plain.specs.declared.Piece.{Piece}
@@ -55,22 +55,25 @@ buyInCharges b a =
     let short = positionOf b (a .position) in
     charge (short .member) (buyInCharge (a .quantity) (a .price) (short .reference)) ∷ []
 
--- "A piece costs its quantity times the highest of the short's reference price, that piece's long's reference price, and the latest price doubled"
-unfoldable pub pricedBy : ℕ → ℕ → List Position → Piece → Piece
-pricedBy class latest ps x =
-    record {
-      short = x .short;
-      long = x .long;
-      quantity = x .quantity;
-      manner = x .manner;
-      cents =
-          x .quantity * cashPrice class (nth noPosition ps (x .short) .reference) (nth noPosition ps (x .long) .reference) latest;
-    }
+-- the reference prices of the longs in pieces, by these positions
+abbrev pub longReferences : List Position → List Piece → List ℕ
+longReferences ps xs = map (λ x. nth noPosition ps (x .long) .reference) xs
 
-unfoldable pub priced : Book → Piece → Piece
-priced b x =
-    let security = positionOf b (x .short) .security in
-    pricedBy (classOf b security) (latestOf b security) (b .positions) x
+-- "the short's reference price, the latest price doubled (class 3: plus 300 cents) and the reference prices of all longs in its pieces": the terms of the
+-- rule, for the settlement of short n with these pieces
+abbrev pub settlementTerms : Book → ℕ → List Piece → List ℕ
+settlementTerms b n xs =
+    let short = positionOf b n in
+    cashTerms (classOf b (short .security)) (short .reference) (longReferences (b .positions) xs) (latestOf b (short .security))
+
+-- "All pieces of one cash settlement now use the highest among" them
+unfoldable pub settlementPrice : Book → ℕ → List Piece → ℕ
+settlementPrice b n xs = highest (settlementTerms b n xs)
+
+-- "A piece costs its quantity times" that price
+unfoldable pub pricedAt : ℕ → Piece → Piece
+pricedAt price x =
+    record { short = x .short; long = x .long; quantity = x .quantity; manner = x .manner; cents = x .quantity * price }
 
 -- "The short's member pays each long's member. The fee to account 0 is open times latest price over 40,000"
 unfoldable pub payment : List Position → Piece → Charge

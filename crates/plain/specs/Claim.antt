@@ -1,19 +1,23 @@
 -- The claim about histories, for the plain book: what holds after every list of calls, refused ones included, from any new book.
-use Prim.Native.Nat.{ℕ, suc, _+_, _≤_, _<_}
+use Prim.Native.Nat.{ℕ, suc, _+_, _*_, _≤_, _<_}
 use mathlib.Core.Path.{_≡_}
 use mathlib.Core.Logic.{_≢_}
 use mathlib.Core.List.{List, [], map}
 use mathlib.Core.Bool.{true}
 use lib.ListN.{length, getD}
 use lib.IntN.{pos, subℕ}
+use lib.Dec.{eqb}
 use Rattle.laws.specs.Limits.{ACCOUNTS, POSITIONS, AWARDS, SECURITIES}
-use Rattle.laws.specs.Lists.{All, range, sum}
+use Rattle.laws.specs.Lists.{All, range, sum, some}
 use Rattle.laws.specs.Asked.{Within}
 use Rattle.laws.specs.Integers.{sumℤ}
+use Rattle.events.specs.declared.Cash.{Cash}
+use Rattle.events.specs.declared.Event.the-variants as event
 use Rattle.plain.specs.declared.Opening.{Opening}
+use Rattle.plain.specs.declared.Piece.{Piece}
 use Rattle.plain.specs.Book.{Book, new, noPosition, positionOf, latestPrice}
 use Rattle.plain.specs.Dealing.{manners, takenBy, fresh}
-use Rattle.plain.specs.Charging.{creditOf, debitOf}
+use Rattle.plain.specs.Charging.{creditOf, debitOf, settlementTerms}
 use Rattle.plain.specs.Calls.{Call, isDischarge, shortOf}
 use Rattle.plain.specs.Refusals.{refusal}
 use Rattle.plain.specs.Histories.{eventOf, next, pieces, quantity, charged, run, handed, allCharges, acceptedEvents, formedBy, latestBy, balance}
@@ -29,6 +33,15 @@ pub record Discharge (b : Book) (c : Call) (n : ℕ) : Type 0 where
   -- each runs from the call's short to a due long of its security
   pub shorts : All (λ x. x .short ≡ n) (pieces b c)
   pub longs : All (λ x. DueLong b (positionOf b n .security) (x .long)) (pieces b c)
+
+-- "All pieces of one cash settlement now use the highest among ..": one price for the settlement of short n with these pieces
+pub record OnePrice (b : Book) (n : ℕ) (xs : List Piece) : Type 0 where
+  pub price : ℕ
+  -- each piece's cents are its quantity times it
+  pub costs : All (λ x. x .cents ≡ x .quantity * price) xs
+  -- no term of the rule exceeds it, and it is one of them
+  pub most : All (λ term. term ≤ price) (settlementTerms b n xs)
+  pub among : some (λ term. eqb term price) (settlementTerms b n xs) ≡ true
 
 -- "A refused call changes nothing", and hands out nothing
 pub record Refused (b : Book) (c : Call) : Type 0 where
@@ -68,5 +81,8 @@ pub record Claim (opening : Opening) (cs : List Call) : Type 0 where
   -- a next call that is an attempt or a cash settlement and is accepted goes by a price that was given today
   pub fresh : (c : Call) (n : ℕ) → refusal (run (new opening) cs) c ≡ 0 → NeedsPrice (eventOf c) n
       → GivenToday (run (new opening) cs) (positionOf (run (new opening) cs) n .security)
+  -- a next call that is a cash settlement and is accepted has one price for all its pieces
+  pub one-price : (c : Call) (s : Cash) → refusal (run (new opening) cs) c ≡ 0 → eventOf c ≡ event.Cash s
+      → OnePrice (run (new opening) cs) (s .position) (pieces (run (new opening) cs) c)
   -- a next call that is refused changes nothing and hands out nothing
   pub refuses : (c : Call) → refusal (run (new opening) cs) c ≢ 0 → Refused (run (new opening) cs) c

@@ -16,10 +16,10 @@ use Rattle.plain.specs.declared.LatestPrice.the-variants.{Never, Given}
 use Rattle.plain.specs.declared.Position.{Position}
 use Rattle.plain.specs.declared.Piece.{Piece}
 use Rattle.plain.specs.Book.{Book, firstDay, givenOn, new}
-use Rattle.plain.specs.Netting.{Key, keys, units, highest, made, netOf, net, netted}
+use Rattle.plain.specs.Netting.{Key, keys, units, highestPrice, made, netOf, net, netted}
 use Rattle.plain.specs.Dealing.{due, longOf, longsOn, takers, share, dealTo, names, taken, takenBy, lowered, lowering, fresh}
 use Rattle.plain.specs.Auction.{failing, insert, byPrice, awarded, unconfirmed, confirmedAward}
-use Rattle.plain.specs.Charging.{Charge, credited, debited, posted, charge, buyInCharges, pricedBy, priced, payment, cashChargesBy, cashCharges, awardFines, lateFines, closeCharges}
+use Rattle.plain.specs.Charging.{Charge, credited, debited, posted, charge, buyInCharges, settlementPrice, pricedAt, payment, cashChargesBy, cashCharges, awardFines, lateFines, closeCharges}
 use Rattle.plain.specs.Calls.{Call, call, dealt, discharged, auctionAwards, handsOut, charges, amount, done}
 use Rattle.plain.specs.Refusals.{stepToday, free, reasons, refusal}
 
@@ -115,5 +115,5 @@ balance b k = subℕ (getD (b .ledger .credits) k 0) (getD (b .ledger .debits) k
 
 -- Unfolding this unfolds the whole book, for worked examples.
 unfoldable pub computing : Unit {0}
-unfolding along new keys units highest made netOf net netted due longOf longsOn takers share dealTo names taken takenBy lowered lowering fresh failing insert byPrice awarded unconfirmed confirmedAward credited debited posted charge buyInCharges pricedBy priced payment cashChargesBy cashCharges awardFines lateFines closeCharges dealt discharged auctionAwards handsOut charges amount done stepToday free reasons refusal next pieces quantity charged run handed allCharges acceptedEvents formed lastGiven balance
+unfolding along new keys units highestPrice made netOf net netted due longOf longsOn takers share dealTo names taken takenBy lowered lowering fresh failing insert byPrice awarded unconfirmed confirmedAward credited debited posted charge buyInCharges settlementPrice pricedAt payment cashChargesBy cashCharges awardFines lateFines closeCharges dealt discharged auctionAwards handsOut charges amount done stepToday free reasons refusal next pieces quantity charged run handed allCharges acceptedEvents formed lastGiven balance
 computing = tt

@@ -1,10 +1,10 @@
 -- Document 01, 'Trades and netting': the positions that a day's trades make.
-use Prim.Native.Nat.{ℕ, _+_, _-_, max}
-use mathlib.Core.List.{List, [], _∷_}
+use Prim.Native.Nat.{ℕ, _+_, _-_}
+use mathlib.Core.List.{List, [], _∷_, map}
 use mathlib.Core.Bool.{Bool, true, false, _&&_}
 use lib.Dec.{ltb, eqb}
 use Rattle.laws.specs.Limits.{MEMBERS}
-use Rattle.laws.specs.Lists.{only, keep, sum, each, range}
+use Rattle.laws.specs.Lists.{only, keep, sum, highest, each, range}
 use Rattle.events.specs.declared.Trade.{Trade}
 use Rattle.plain.specs.declared.Position.{Position}
 
@@ -28,9 +28,8 @@ sells k t = eqb (t .seller) (k .member) && eqb (t .security) (k .security)
 unfoldable pub units : (Trade → Bool) → List Trade → ℕ
 units test trades = sum (λ t. only (test t) (t .quantity)) trades
 
-unfoldable pub highest : (Trade → Bool) → List Trade → ℕ
-highest test [] = 0
-highest test (t ∷ trades) = max (only (test t) (t .price)) (highest test trades)
+unfoldable pub highestPrice : (Trade → Bool) → List Trade → ℕ
+highestPrice test trades = highest (map (λ t. only (test t) (t .price)) trades)
 
 -- "A position's delivery day S is the trade day plus 2"; "Netted is bought minus sold without its sign; at first all of it is open."
 unfoldable pub made : ℕ → Key → Bool → ℕ → ℕ → Position
@@ -57,7 +56,7 @@ netOf day k bought highestBought sold highestSold =
 
 unfoldable pub net : ℕ → List Trade → Key → List Position
 net day trades k =
-    netOf day k (units (buys k) trades) (highest (buys k) trades) (units (sells k) trades) (highest (sells k) trades)
+    netOf day k (units (buys k) trades) (highestPrice (buys k) trades) (units (sells k) trades) (highestPrice (sells k) trades)
 
 -- "the day's trades are netted for each member and security"
 unfoldable pub netted : ℕ → List Trade → List Key → List Position

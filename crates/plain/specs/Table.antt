@@ -25,7 +25,7 @@ use Rattle.plain.specs.declared.Manner.{Manner}
 use Rattle.plain.specs.declared.Manner.the-variants as manner
 use Rattle.plain.specs.Book.{Book, givenOn, latestPrice}
 use Rattle.plain.specs.Histories.{run, handed, allCharges, refusals, quantities, balance, computing}
-use Rattle.plain.specs.Worked.{xx, oneShareBytes, oneShare, squeeze, example, twoDays, oldPrices, allDelivered}
+use Rattle.plain.specs.Worked.{xx, oneShareBytes, oneShare, squeeze, example, twoDays, oldPrices, allDelivered, twoLongs, fourLongs}
 
 -- a row: a value by the definitions, and the value expected
 pub record Row : Type 1 where
@@ -77,7 +77,7 @@ table =
     ∷ (ceiling 1 101 is 202)
     ∷ (ceiling 3 101 is 104)
     -- "Class 3 at 20,000: cash price 20,300, not 20,600."
-    ∷ (cashPrice 3 20000 20000 20000 is 20300)
+    ∷ (cashPrice 3 20000 (20000 ∷ []) 20000 is 20300)
     -- "Class 1 r 4, 5, 7, 8: none, attempt, attempt, cash. Class 2 r 26, 27, 28, 30, 36, 37: none, attempt, none, cash, cash, attempt."
     ∷ (map (stepOn 1) (4 ∷ 5 ∷ 7 ∷ 8 ∷ []) is (step.Nothing ∷ step.Attempt ∷ step.Attempt ∷ step.Cash ∷ []))
     ∷ (map (stepOn 2) (26 ∷ 27 ∷ 28 ∷ 30 ∷ 36 ∷ 37 ∷ []) is (step.Nothing ∷ step.Attempt ∷ step.Nothing ∷ step.Cash ∷ step.Cash ∷ step.Attempt ∷ []))
@@ -113,8 +113,26 @@ table =
     ∷ (latestPrice (run oneShare oldPrices) 1 is Given (givenOn 10 1200))
     -- nothing is open: 32 comes before 24
     ∷ (refusals oneShare allDelivered is (replicate 13 0 ++ 32 ∷ 0 ∷ 24 ∷ []))
+    -- "All pieces of one cash settlement now use the highest among the short's reference price, the latest price doubled (class 3: plus 300 cents) and
+    -- the reference prices of all longs in its pieces.": two longs with the references 1,000 and 3,000, both at 3,000, where the latest price
+    -- doubled is 2,200; the fee is as it was
+    ∷ (refusals oneShare twoLongs is replicate 15 0)
+    ∷ (handed oneShare twoLongs
+    is (piece 4 2 50 manner.Delivered 0 ∷ piece 1 2 10 manner.Cash 30000 ∷ piece 1 3 50 manner.Cash 150000 ∷ []))
+    ∷ (map (balance (run oneShare twoLongs)) (range 0 5) is (pos 25000 ∷ negℤ (pos 205000) ∷ pos 30000 ∷ pos 150000 ∷ pos 0 ∷ []))
+    -- three longs in the pieces, the middle one with the highest reference; a due long without a share does not count
+    ∷ (refusals oneShare fourLongs is replicate 19 0)
+    ∷ (handed oneShare fourLongs
+    is (piece 4 2 50 manner.Delivered 0
+    ∷ piece 5 2 5 manner.Delivered 0
+    ∷ piece 1 2 5 manner.Cash 15000
+    ∷ piece 1 3 50 manner.Cash 150000
+    ∷ piece 1 6 5 manner.Cash 15000
+    ∷ piece 7 6 5 manner.Cash 25000
+    ∷ piece 7 8 15 manner.Cash 75000
+    ∷ []))
     ∷ []
 
 pub every-row : Holds table
 unfolding table shareStep recurringStep stepOn ceiling raised cashPrice roundedHalfUp fee cashFee awardFine lateFine buyInCharge inCents check.computing computing
-every-row = (refl, (refl, (refl, (refl, (λ i more. fee-above (4000000001 + more) (omega arith) i, (refl, (refl, (refl, (refl, (refl, (refl, (refl, (refl, (refl, (refl, (refl, (refl, (refl, (refl, (refl, (refl, (refl, (refl, (refl, (refl, (refl, (refl, (refl, (refl, (refl, (refl, (refl, (refl, (refl, tt))))))))))))))))))))))))))))))))))
+every-row = (refl, (refl, (refl, (refl, (λ i more. fee-above (4000000001 + more) (omega arith) i, (refl, (refl, (refl, (refl, (refl, (refl, (refl, (refl, (refl, (refl, (refl, (refl, (refl, (refl, (refl, (refl, (refl, (refl, (refl, (refl, (refl, (refl, (refl, (refl, (refl, (refl, (refl, (refl, (refl, (refl, (refl, (refl, (refl, (refl, tt)))))))))))))))))))))))))))))))))))))))

@@ -40,8 +40,11 @@ offer member quantity price = event.Offer (record { position = 1; offerer = memb
 abbrev attempt : Event
 attempt = event.Attempt (record { position = 1 })
 
+abbrev cashOf : ℕ → Event
+cashOf n = event.Cash (record { position = n })
+
 abbrev cash : Event
-cash = event.Cash (record { position = 1 })
+cash = cashOf 1
 
 abbrev closes : ℕ → List Event
 closes n = replicate n event.Close
@@ -121,4 +124,38 @@ allDelivered =
     ++ (cash
     ∷ price 1100
     ∷ cash
+    ∷ []))
+
+-- one price for a whole cash settlement. Day 1: member 1 sells 60 to 2 at 1,000, member 4 sells 50 to 3 at 3,000. Day 3: member 4's 50 are delivered, to
+-- position 2. Day 11, at the price 1,100: position 1 is settled in cash, with 10 to position 2 and 50 to position 3
+abbrev pub twoLongs : List Call
+twoLongs =
+    callsOf
+    (trade 1 2 60 1000
+    ∷ trade 4 3 50 3000
+    ∷ event.Close
+    ∷ event.Close
+    ∷ deliveryOf 4 50
+    ∷ closes 8
+    ++ (price 1100
+    ∷ cash
+    ∷ []))
+
+-- with two more sellers: 5 sells 10 to 6 at 1,500, 7 sells 20 to 8 at 5,000. Of the longs in the pieces the middle one has the highest reference price, and
+-- position 8, a due long with a higher one, has no share. Then position 7 is settled, whose own reference price is the highest
+abbrev pub fourLongs : List Call
+fourLongs =
+    callsOf
+    (trade 1 2 60 1000
+    ∷ trade 4 3 50 3000
+    ∷ trade 5 6 10 1500
+    ∷ trade 7 8 20 5000
+    ∷ event.Close
+    ∷ event.Close
+    ∷ deliveryOf 4 50
+    ∷ deliveryOf 5 5
+    ∷ closes 8
+    ++ (price 1100
+    ∷ cash
+    ∷ cashOf 7
     ∷ []))

@@ -1,15 +1,23 @@
--- What the definitions of fees and charges say of every value.
+-- What the definitions of prices, fees and charges say of every value.
 use Prim.Native.Nat.{ℕ, zero, suc, _+_, _-_, _*_, _≤_, _<_}
 use native.Mathlib.Nat.{mul-add}
 use native.Mathlib.Omega.{arith}
 use mathlib.Core.Path.{_≡_, refl, sym, ap, _∙_}
+use mathlib.Core.List.{List, [], _∷_}
 use mathlib.Core.Bool.{cond}
 use lib.Dec.{ltb, leb}
 use lib.IntN.{ℤ, pos, negsuc, negℤ, subℕ}
 use borrow.Author.Tests.{ltb-true, ltb-false, lt-ltb, le-ltb, le-leb, lt-leb}
 use Rattle.laws.specs.Asked.{Said, passed, failed, ask}
+use Rattle.laws.specs.Lists.{highest}
 use Rattle.rules.specs.declared.Amount.the-variants.{Debit, Credit}
+use Rattle.rules.specs.Prices.{cashPrice}
 use Rattle.rules.specs.Charges.{roundedHalfUp, fee, cashFee, buyInCents, amountOf, buyInCharge, inCents}
+
+-- the longs of a cash settlement count by the highest of their reference prices alone
+pub by-highest-long : (class short latest : ℕ) (longs : List ℕ) → cashPrice class short longs latest ≡ cashPrice class short (highest longs ∷ []) latest
+unfolding cashPrice
+by-highest-long class short latest longs = omega arith
 
 -- "above 4,000,000,000: 100,000"
 pub fee-above : (value : ℕ) → 4000000000 < value → cashFee value ≡ 100000

@@ -1,5 +1,6 @@
 // The rules on numbers alone: day windows, prices, fees and fines. Each function is its definition in specs/, for all inputs.
 ghost use mathlib.Core.Path.{_≡_};
+ghost use mathlib.Core.List.{[], _∷_};
 ghost use Prim.Native.Nat.{_*_, min, max};
 ghost use Rattle.rules.specs.Windows.{stepOn, recurringStep, stepKind};
 ghost use Rattle.rules.specs.Prices.{ceiling, raised, cashPrice};
@@ -100,8 +101,10 @@ fn lesser(a: u64, b: u64) -> u64
     if a < b { a } else { b }
 }
 
+// The price of a cash settlement, by the reference price of its short and the highest one among the longs in its pieces: several longs count
+// by that one alone (`by-highest-long`).
 pub fn cash_price(class: u8, short: u32, long: u32, latest: u32) -> u64
-    ensures { λ r. ⌜ r ≡ cashPrice class short long latest ⌝ }
+    ensures { λ r. ⌜ r ≡ cashPrice class short (long ∷ []) latest ⌝ }
 {
     let references = greater(short as u64, long as u64);
     greater(references, raised_price(class, latest))

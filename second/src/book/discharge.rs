@@ -1,6 +1,8 @@
 //! The three calls that discharge a short: delivery, confirmation of an award, cash settlement.
 
-use super::{number, place, require, Answer, Book, Cause, Charge, Manner, Piece, Position, Side, HOUSE, SHEET_PLACES};
+use super::{
+    number, place, require, Answer, Book, Cause, Charge, Longs, Manner, Piece, Position, Side, HOUSE, SHEET_PLACES,
+};
 use crate::charges;
 use crate::refusal::Refusal;
 use crate::windows::{step, Step};
@@ -53,22 +55,34 @@ impl Book {
         require(quantity > 0, Refusal::NotFree)?;
 
         let class = self.security_of(short).class;
-        let payer = self.positions[short].member;
-        let short_reference = self.positions[short].reference_price;
+        let &Position { member: payer, reference_price: short_reference, .. } = &self.positions[short];
         let mut pieces = self.discharge(short, quantity, Manner::Cash);
+        let references = pieces.iter().map(|piece| self.long_of(piece).reference_price);
+        let price = charges::cash_price(class, short_reference, references, latest);
+        let longs = self.longs_of(&pieces);
         for piece in &mut pieces {
-            let long = &self.positions[usize::from(piece.long) - 1];
-            let price = charges::cash_price(class, short_reference, long.reference_price, latest);
             piece.cents = u64::from(piece.quantity) * price;
-            let &mut Piece { short, long: to, quantity, cents, .. } = piece;
-            let long_reference = long.reference_price;
-            let cause = Cause::Payment { short, long: to, quantity, short_reference, long_reference, latest, price };
-            self.accounts.pay(Charge { payer, payee: long.member, cents: cents as i64, cause });
+            let payee = self.long_of(piece).member;
+            let &mut Piece { short, long, quantity, cents, .. } = piece;
+            let cause = Cause::Payment { short, long, quantity, short_reference, longs, latest, price };
+            self.accounts.pay(Charge { payer, payee, cents: cents as i64, cause });
         }
         let fee = charges::cash_fee(u64::from(quantity) * u64::from(latest));
         let cause = Cause::Fee { short: number(short), quantity, latest };
         self.accounts.pay(Charge { payer, payee: HOUSE, cents: fee as i64, cause });
         Ok(Answer { quantity, pieces })
+    }
+
+    fn long_of(&self, piece: &Piece) -> &Position {
+        &self.positions[usize::from(piece.long) - 1]
+    }
+
+    /// The longs of a discharge, each of which has one of the pieces.
+    fn longs_of(&self, pieces: &[Piece]) -> Longs {
+        let references = pieces.iter().map(|piece| (self.long_of(piece).reference_price, piece.long));
+        let higher = |one: (u32, u16), next: (u32, u16)| if next.0 > one.0 { next } else { one };
+        let (reference_price, highest) = references.reduce(higher).unwrap_or_default();
+        Longs { count: pieces.len() as u16, highest, reference_price }
     }
 
     pub fn allows(&self, short: usize, wanted: Step) -> bool {

@@ -265,14 +265,24 @@ pub struct Charge {
 pub enum Cause {
     /// A confirmed award's price differs from the short's reference price.
     BuyIn { award: u16, short: u16, quantity: u32, price: u32, reference_price: u32 },
-    /// A piece of a cash settlement, at `price` a unit.
-    Payment { short: u16, long: u16, quantity: u32, short_reference: u32, long_reference: u32, latest: u32, price: u64 },
+    /// A piece of a cash settlement, at `price` a unit, which all pieces of the settlement have. `longs` are those of the
+    /// settlement, of which `long` is this piece's.
+    Payment { short: u16, long: u16, quantity: u32, short_reference: u32, longs: Longs, latest: u32, price: u64 },
     /// The fee for a cash settlement.
     Fee { short: u16, quantity: u32, latest: u32 },
     /// An award of the day that was not confirmed.
     UnconfirmedAward { award: u16, short: u16, quantity: u32, latest: u32 },
     /// A due short of class 1.
     Late { short: u16, quantity: u32, latest: u32 },
+}
+
+/// The longs in the pieces of a cash settlement: how many they are, the first of those with the highest reference price,
+/// and that price.
+#[derive(Clone, Copy, Debug, PartialEq, Eq)]
+pub struct Longs {
+    pub count: u16,
+    pub highest: u16,
+    pub reference_price: u32,
 }
 
 /// Cents by account, of which the first is the house's.

@@ -11,6 +11,7 @@ pub fn exhaustive(tests: &mut Tests) {
     tests.check("windows: edges of document 01", &[], window_edges);
     tests.check("windows: every class byte, r 0 to 400 and 65,535", &[], windows_of_every_class_byte);
     tests.check("charges: edges of document 01", &[], charge_edges);
+    tests.check("charges: cash prices known beforehand", &[], cash_price_edges);
     tests.check("rounding: divisors 0 to 200, values 0 to 1,000", &[], rounding_of_small_values);
     tests.check("fees and fines: each place where a quotient steps", &[], steps_of_fees_and_fines);
     tests.check("prices: every price to 2,000 and the largest", &[], ceilings_of_every_class_byte);
@@ -65,8 +66,63 @@ fn charge_edges(check: &mut Check) {
         let name = format!("ceiling of class {class} at 101");
         edge(&name, desk::ceiling(class, 101), charges::ceiling(class, 101), ceiling);
     }
-    let (desk, second) = (desk::cash_price(3, 1, 1, 20_000), charges::cash_price(3, 1, 1, 20_000));
+    let (desk, second) = (desk::cash_price(3, 1, 1, 20_000), charges::cash_price(3, 1, [1], 20_000));
     edge("cash price of class 3 at 20,000", desk, second, 20_300);
+}
+
+/// Class, the short's reference price, the longs', the latest price, and the price of a unit in cash.
+const CASH_PRICES: [(u8, u32, &[u32], u32, u64); 27] = [
+    // The squeeze's.
+    (1, 1_200, &[1_000, 1_200], 1_100, 2_200),
+    // A long's, wherever it stands, or the short's.
+    (1, 1_000, &[2_500], 1_100, 2_500),
+    (1, 1_000, &[2_500, 1_500], 1_100, 2_500),
+    (1, 1_000, &[1_500, 2_500], 1_100, 2_500),
+    (1, 1_000, &[1_500, 2_500, 2_000], 1_100, 2_500),
+    (2, 1_000, &[2_000, 1_500, 2_500], 1_100, 2_500),
+    (2, 2_500, &[2_000, 1_500, 2_400], 1_100, 2_500),
+    (2, 2_500, &[2_500, 2_500], 1_100, 2_500),
+    // By one cent.
+    (1, 2_199, &[2_199, 2_199], 1_100, 2_200),
+    (1, 2_199, &[2_201, 2_200], 1_100, 2_201),
+    (2, 2_201, &[2_199, 2_200], 1_100, 2_201),
+    (2, 2_200, &[2_201, 2_202], 1_100, 2_202),
+    // In class 3 the raise is by 300.
+    (3, 1_000, &[1_399, 1_200], 1_100, 1_400),
+    (3, 1_000, &[1_200, 1_400], 1_100, 1_400),
+    (3, 1_000, &[1_200, 1_401], 1_100, 1_401),
+    (3, 1_402, &[1_401, 1_200], 1_100, 1_402),
+    (3, 1, &[1, 2], 1, 301),
+    // The largest numbers, the last two of them of no book.
+    (1, 1, &[10_000_000, 9_999_999], 10_000_000, 20_000_000),
+    (3, 10_000_000, &[10_000_000, 1], 10_000_000, 10_000_300),
+    (2, u32::MAX, &[u32::MAX], u32::MAX, 8_589_934_590),
+    (3, u32::MAX, &[u32::MAX], u32::MAX, 4_294_967_595),
+    // A number that is no class has no raised price.
+    (0, 5, &[7, 6], 1_000, 7),
+    (0, 8, &[7, 6], 1_000, 8),
+    (4, 5, &[6, 7], 1_000, 7),
+    (255, 5, &[6, 7, 4], u32::MAX, 7),
+    (0, 0, &[0], 1_000, 0),
+    (3, 0, &[0], 0, 300),
+];
+
+/// The second implementation is given all the longs' reference prices, the desk the highest alone.
+fn cash_price_edges(check: &mut Check) {
+    for (class, short, longs, latest, known) in CASH_PRICES {
+        let [desk, second] = cash_prices(class, short, longs, latest);
+        check.known(|| cash_words(class, short, longs, latest), desk, second, known);
+    }
+}
+
+fn cash_prices(class: u8, short: u32, longs: &[u32], latest: u32) -> [u64; 2] {
+    let highest = longs.iter().copied().fold(0, u32::max);
+    let second = charges::cash_price(class, short, longs.iter().copied(), latest);
+    [desk::cash_price(class, short, highest, latest), second]
+}
+
+fn cash_words(class: u8, short: u32, longs: &[u32], latest: u32) -> String {
+    format!("class {class} short's reference {short} longs' references {longs:?} latest price {latest}")
 }
 
 fn rounding_of_small_values(check: &mut Check) {
@@ -141,11 +197,11 @@ fn random_prices(check: &mut Check, random: &mut Random) {
         let latest = random.sized_word() as u32;
         let input = || format!("class {class} latest price {latest}");
         check.same(input, desk::ceiling(class, latest), charges::ceiling(class, latest));
-        // References about as high as the latest price raised, so that each of the three is highest at times.
-        let [short, long] = [(); 2].map(|_| near_raised(random, latest));
-        let input = || format!("class {class} short's reference {short} long's reference {long} latest price {latest}");
-        let second = charges::cash_price(class, short, long, latest);
-        check.same(input, desk::cash_price(class, short, long, latest), second);
+        // References about as high as the latest price raised, so that each term is highest at times.
+        let short = near_raised(random, latest);
+        let longs: Vec<u32> = (0..random.between(1, 5)).map(|_| near_raised(random, latest)).collect();
+        let [desk, second] = cash_prices(class, short, &longs, latest);
+        check.same(|| cash_words(class, short, &longs, latest), desk, second);
     }
 }
 

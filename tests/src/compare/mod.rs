@@ -8,6 +8,7 @@ pub mod csv;
 pub mod events;
 pub mod html;
 pub mod lines;
+pub mod one_price;
 pub mod page;
 pub mod play;
 pub mod play_page;

@@ -171,7 +171,7 @@ pub fn input(class: u8, events: &[Event]) -> Vec<u8> {
     [bytes_of(&[(class, *b"XX0000000002")]), file_of(events)].concat()
 }
 
-fn output(input: &[u8]) -> Vec<u8> {
+pub fn output(input: &[u8]) -> Vec<u8> {
     // An error is compared as if it were printed, and differs.
     player::play(input).unwrap_or_else(|error| error.to_string().into_bytes())
 }

@@ -56,7 +56,7 @@ pub fn seeded(round: &mut Round) {
 }
 
 /// Events in text, each with what the player prints of it after its number; several closes print it each.
-type Answered<'a> = (&'a str, &'a str);
+pub type Answered<'a> = (&'a str, &'a str);
 
 fn known_events(tests: &mut Tests) {
     tests.check(
@@ -254,7 +254,7 @@ fn seventeenth_attempt(check: &mut Check) {
 const ISINS: [&str; 3] = ["XX0000000002", "XX0000000010", "XX0000000028"];
 
 /// Wants the player to answer each event with what stands beside it, and to print these lines at the end.
-fn answers(check: &mut Check, classes: &[u8], events: &[Answered], end: &str) {
+pub fn answers(check: &mut Check, classes: &[u8], events: &[Answered], end: &str) {
     let securities = classes.iter().zip(ISINS).map(|(class, isin)| format!("security {class} {isin}\n"));
     let text: String = securities.chain(events.iter().map(|(event, _)| format!("{event}\n"))).collect();
     let input = text::read(text.as_bytes()).map(|input| input.bytes()).expect("the text has no mistake");

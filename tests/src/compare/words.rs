@@ -4,12 +4,15 @@
 use super::{hex, same};
 use crate::check::{Check, Round, Tests};
 use fails_book_tests::histories;
+use fails_book_tests::histories::terms::Terms;
 use fails_book_tests::random::Random;
+use second::book::{Book, Piece, SHEET_PLACES};
+use second::events::Event;
 use second::transcript;
 use std::collections::BTreeMap;
 use tools::check::Source;
 use tools::output;
-use tools::played::Played;
+use tools::played::{Kind, Played};
 use tools::words;
 
 /// An example's name, its text, the player's output and the words.
@@ -36,6 +39,7 @@ pub fn exhaustive(tests: &mut Tests) {
     });
     tests.check("words: the README's example", &[], readme);
     tests.check("words: known lines", &[], known_lines);
+    tests.check("words: the price of a cash settlement, of one, three and 61 longs", &[], known_prices);
     tests.check("words: each reason for a refusal", &[], |check| {
         for (events, line) in REASONS {
             same(check, || events.to_string(), last_refusal(events), Ok(line.to_string()));
@@ -63,6 +67,18 @@ pub fn seeded(round: &mut Round) {
             charged += u64::from(adds_up(check, &histories::long(random, which)));
         }
         check.reached("an account that is charged", charged);
+    });
+    round.check("words: the terms of cash prices", &[], |check, random| {
+        let [mut payments, mut of_several] = [0, 0];
+        for which in 0..404 {
+            let input = if which < 400 { histories::any(random) } else { histories::long(random, which) };
+            for numbers in terms_in_words(check, &input) {
+                payments += 1;
+                of_several += u64::from(numbers.len() == MOST_NUMBERS);
+            }
+        }
+        check.reached("a payment", payments);
+        check.reached("a payment of a settlement with several longs in class 3", of_several);
     });
     round.check("words: outputs changed in one place", &[], |check, random| {
         for _ in 0..200 {
@@ -178,7 +194,7 @@ fn known_lines(check: &mut Check) {
         "   buy-in difference: the house pays member 1 1 cent: 1 unit of award 1 times (its price 98 minus reference price 99 of position 1)",
         "71. day 62, line 13: cash settlement of position 3: 1 unit",
         "   1 unit from position 3 (member 1) to position 4 (member 2) for 400 cents",
-        "   cash settlement: member 1 pays member 2 400 cents: 1 unit times 400, the highest of reference price 101 of position 3, reference price 101 of position 4 and the latest price 100 plus 300",
+        "   cash settlement: member 1 pays member 2 400 cents: 1 unit of position 4 times 400, the highest of reference price 101 of position 3, reference price 101 of position 4 and the latest price 100 plus 300",
         "position 3: member 1, short: 1 netted, 0 delivered, 0 bought in, 1 settled in cash, 0 open",
         "account  holder     buy-in difference  cash settlement  cash settlement fee  unconfirmed award  late fine  cents in all",
         "      0  the house                 -1                0               25,000                  0          0        24,999",
@@ -190,6 +206,91 @@ fn known_lines(check: &mut Check) {
     }
     let example = words_of(EXAMPLES[0].1, EXAMPLES[0].2.as_bytes()).unwrap_or_else(|wrong| wrong);
     same(check, || example.clone(), example.lines().last(), Some("no account was charged"));
+}
+
+/// Trades on day 1 before a cash settlement of position 1, at the price of 1,100 on day 11, and what is said of the last
+/// of its payments.
+const PRICES: [(&str, &str); 4] = [
+    (
+        "trade 1 2 1 5 2300\n",
+        "5 units of position 2 times 2,300, the highest of reference price 2,300 of position 1, reference price 2,300 of position 2 and the latest price 1,100 doubled",
+    ),
+    // Longs 4 and 5 have the highest reference price, and long 3 a lower one.
+    (
+        "trade 1 3 1 4 1000\ntrade 2 4 1 3 2500\ntrade 1 5 1 6 1200\ntrade 2 5 1 1 2500\n",
+        "3 units of position 5 times 2,500, the highest of reference price 1,200 of position 1, reference price 2,500 of position 4 (the highest among the settlement's 3 longs) and the latest price 1,100 doubled",
+    ),
+    // Long 4, with 9,000, has no share.
+    (
+        "trade 1 3 1 4 1000\ntrade 2 4 1 3 9000\n",
+        "4 units of position 3 times 2,200, the highest of reference price 1,000 of position 1, reference price 1,000 of position 3 and the latest price 1,100 doubled",
+    ),
+    // Member 1 sells a unit to each of the members 3 to 63.
+    (
+        "MANY",
+        "1 unit of position 62 times 2,200, the highest of reference price 1,097 of position 1, reference price 1,097 of position 2 (the highest among the settlement's 61 longs) and the latest price 1,100 doubled",
+    ),
+];
+
+fn known_prices(check: &mut Check) {
+    let many: String = (3..=63).map(|buyer| format!("trade 1 {buyer} 1 1 {}\n", 1_100 - buyer)).collect();
+    for (trades, said) in PRICES {
+        let trades = trades.replace("MANY", &many);
+        let text = format!("{REGISTER}{trades}close 10\nprice 1 1100\ncash 1\n");
+        let output = Source::of_text(text.as_bytes()).map(|source| transcript::transcript(&source.bytes));
+        let words = output.and_then(|output| words_of(&text, &output)).unwrap_or_else(|wrong| wrong);
+        let mut payments = words.lines().filter(|line| line.starts_with("   cash settlement: "));
+        let last = payments.next_back().and_then(|line| line.split_once(" cents: "));
+        same(check, || text.clone(), last.map(|(_, figures)| figures), Some(said));
+    }
+}
+
+/// The numbers in the words of a payment of several longs in class 3: units, long, price, the short's reference price
+/// and the short, the highest reference price of the longs and its long, how many longs there are, the latest price,
+/// and 300.
+const MOST_NUMBERS: usize = 10;
+
+/// The numbers of each payment as its words have them, compared with those of the book before the event.
+fn terms_in_words(check: &mut Check, input: &[u8]) -> Vec<Vec<u64>> {
+    let (Ok((mut book, _)), Ok(played)) =
+        (transcript::open(input), played(&Source::of_bytes(input.to_vec()), &transcript::transcript(input)))
+    else {
+        return Vec::new();
+    };
+    let mut all = Vec::new();
+    for step in &played.steps {
+        if let (Event::Cash { short }, Ok(done)) = (step.event, &step.result) {
+            let payments = done.charges.iter().filter(|charge| Kind::of(charge) == Kind::Payment);
+            let found: Vec<Vec<u64>> = payments.map(|charge| numbers_of(&words::figures(&played, charge))).collect();
+            same(check, || hex(input), &found, &numbers_wanted(&book, short, &done.pieces));
+            all.extend(found);
+        }
+        // A refused call changes nothing.
+        let _ = book.call(&step.event, SHEET_PLACES);
+    }
+    all
+}
+
+fn numbers_of(words: &str) -> Vec<u64> {
+    words.split(' ').filter_map(|word| word.trim_end_matches(',').replace(',', "").parse().ok()).collect()
+}
+
+fn numbers_wanted(book: &Book, short: u16, pieces: &[Piece]) -> Vec<Vec<u64>> {
+    let short = u64::from(short);
+    let Some(terms) = Terms::of(book, short, pieces.iter().map(|piece| piece.long.into())) else {
+        return Vec::new();
+    };
+    let highest = terms.longs.iter().copied().max().unwrap_or(0);
+    let first = terms.longs.iter().position(|&reference| reference == highest).map_or(0, |at| pieces[at].long.into());
+    let security = &book.securities[book.positions[short as usize - 1].security];
+    let latest = security.latest_price.map_or(0, |latest| latest.price.into());
+    let numbers = |piece: &Piece| {
+        let own = [piece.quantity.into(), piece.long.into(), terms.highest(), terms.short, short, highest, first];
+        let several = (pieces.len() > 1).then_some(pieces.len() as u64);
+        let raise = (security.class == 3).then_some(300);
+        own.into_iter().chain(several).chain([latest]).chain(raise).collect()
+    };
+    pieces.iter().map(numbers).collect()
 }
 
 /// What is changed in the example's output, to what, and what is said of it.

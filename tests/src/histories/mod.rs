@@ -8,6 +8,7 @@ mod market;
 pub mod registers;
 mod scenes;
 pub mod survey;
+pub mod terms;
 
 pub use contrary::random_event;
 pub use damage::{damage, damaged};

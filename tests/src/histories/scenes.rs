@@ -11,7 +11,7 @@ use std::collections::HashSet;
 /// Any input, most often of a few hundred events at most.
 pub fn any(random: &mut Random) -> Vec<u8> {
     let limit = random.pick(&[5, 20, 60, 60, 150, 150, 400]);
-    match random.below(20) {
+    match random.below(22) {
         0 => tiny(random),
         1 => random_fields(random),
         2..=5 => {
@@ -22,6 +22,7 @@ pub fn any(random: &mut Random) -> Vec<u8> {
         6 | 7 => many_attempts(random),
         8 => many_pieces(random, 100),
         9 | 10 => waiting(random, limit),
+        11 | 12 => settled_in_cash(random),
         _ => market(random, limit),
     }
 }
@@ -191,6 +192,16 @@ impl History<'_> {
         }
     }
 
+    /// A trade in security 1. Each seller has a level, in hundredths of the price, and sells at prices near it.
+    fn trade_near(&mut self, price: usize, levels: &[usize]) {
+        let seller = self.random.below(levels.len());
+        let buyer = levels.len() + self.random.between(1, 5);
+        let price = price * (levels[seller] + self.random.below(11)) / 100;
+        let quantity = self.random.between(1, 40) as u32;
+        let [seller, buyer] = [seller + 1, buyer].map(|member| member as u8);
+        self.play(Event::Trade { security: 1, seller, buyer, quantity, price: price as u32 });
+    }
+
     /// Closes to a day on which the shorts of day 1 may be attempted. Securities 1, 2 and 4 get a price on an earlier
     /// day, 1 and 2 another on this one.
     fn close_to_attempts(&mut self, class: u8) {
@@ -239,6 +250,36 @@ fn many_pieces(random: &mut Random, trades: usize) -> Vec<u8> {
         history.play_on_price_of_today(cash);
     }
     history.limit = history.limit.min(history.events.len() + 100);
+    history.run_market();
+    history.input()
+}
+
+/// Members sell to others in one security, each at prices of its own above or below the latest price raised, and are
+/// settled in cash on one day: so each term of a cash price is the highest at times. Deliveries leave some longs with
+/// nothing open, and trades of the last day make longs that are not due.
+fn settled_in_cash(random: &mut Random) -> Vec<u8> {
+    let class = random.between(1, 3) as u8;
+    let register = with_classes(random, &[class]);
+    let mut history = History::new(random, register, 150);
+    let latest = history.random.pick(&[400, 1_100, 5_000, 20_000]);
+    let raised = if class == 3 { latest + 300 } else { 2 * latest };
+    let sellers: Vec<usize> = (0..history.random.between(2, 4)).map(|_| history.random.between(70, 130)).collect();
+    for _ in 0..history.random.between(1, 3) {
+        (0..history.random.between(3, 8)).for_each(|_| history.trade_near(raised, &sellers));
+        history.play(Event::Close);
+    }
+    history.close(if class == 1 { 8 } else { 30 });
+    (0..history.random.below(4)).for_each(|_| history.try_to_play(History::fitting_delivery));
+    (0..history.random.below(3)).for_each(|_| history.trade_near(raised, &sellers));
+    history.play(Event::Close);
+    history.play(Event::Price { security: 1, price: latest as u32 });
+    for _ in 0..3 * sellers.len() {
+        history.try_to_play(History::fitting_cash);
+        if history.random.one_in(8) {
+            history.try_to_play(History::fitting_price);
+        }
+    }
+    history.limit = history.limit.min(history.events.len() + 20);
     history.run_market();
     history.input()
 }

@@ -1,5 +1,6 @@
 //! Counts the states that histories reach, so that a comparison can want each of them.
 
+use super::terms::{Term, Terms};
 use second::book::{Answer, Auction, Award, Book, LatestPrice, Piece, Position, Side, MOST_ATTEMPTS, SHEET_PLACES};
 use second::charges;
 use second::events::{Event, MOST_EVENTS};
@@ -61,9 +62,15 @@ states! {
     MiddleFee "a cash settlement at a fee between the limits",
     RoundedUpFee "a cash settlement at a fee that is rounded up",
     GreatestFee "a cash settlement at the greatest fee",
-    ShortReference "a cash price that is the short's reference price",
-    LongReference "a cash price that is the long's reference price",
-    RaisedPrice "a cash price that is above both reference prices",
+    ShortHighest "a cash price that is the short's reference price, above those of different longs and the raised price",
+    RaisedHighest "a cash price that is the latest price raised, above the reference prices of different longs",
+    FirstHighest "a cash price that is the first long's reference price, above the others",
+    MiddleHighest "a cash price that is a middle long's reference price, above the others",
+    LastHighest "a cash price that is the last long's reference price, above the others",
+    LongHighest3 "a cash price of class 3 that is a long's reference price, below the latest price doubled",
+    HigherAfter "a due long with a reference price above the cash price, after the quantity is used up",
+    HigherEmpty "a due long with a reference price above the cash price, before the pieces, with nothing open",
+    HigherNotDue "a long with a reference price above the cash price that is not due",
     NettedToNothing "a member that bought what it sold on one day",
     NettedInPart "a member that bought and sold different quantities on one day",
     MostPositions "a book of 1,024 positions",
@@ -153,8 +160,10 @@ impl Survey {
                 self.reach_if(award.price < reference, State::Cheaper);
             }
             Event::Cash { short } => {
+                let terms = Terms::of(book, short.into(), answer.pieces.iter().map(|piece| piece.long.into()));
                 let short = position(book, short);
                 self.cash(book, short, answer);
+                self.cash_price(book, short, &terms.expect("a cash settlement has all its terms"), answer);
                 self.on_price_of_today(&prices[short.security], [State::CashAfterOlder, State::CashOnSecond]);
             }
             _ => {}
@@ -269,12 +278,45 @@ impl Survey {
         self.reach_if(fee == 100_000, State::GreatestFee);
         self.reach_if((25_001..100_000).contains(&fee), State::MiddleFee);
         self.reach_if((25_001..100_000).contains(&fee) && fee > value / 40_000, State::RoundedUpFee);
-        for &Piece { long, quantity, cents, .. } in &answer.pieces {
-            let price = cents / u64::from(quantity);
-            let [short, long] = [short, position(book, long)].map(|position| u64::from(position.reference_price));
-            self.reach_if(price == short && short > long, State::ShortReference);
-            self.reach_if(price == long && long > short, State::LongReference);
-            self.reach_if(price > short.max(long), State::RaisedPrice);
+    }
+
+    /// Which term the price of a settlement is, where its longs have different reference prices, and whether a long
+    /// without a piece has a higher one.
+    fn cash_price(&mut self, book: &Book, short: &Position, terms: &Terms, answer: &Answer) {
+        let price = terms.highest();
+        if answer.pieces.iter().any(|piece| piece.cents != u64::from(piece.quantity) * price) {
+            return;
+        }
+        let differ = terms.longs.iter().any(|&reference| reference != terms.longs[0]);
+        if let Some(term) = terms.above_all_others().filter(|_| differ) {
+            let last = terms.longs.len() - 1;
+            let state = match term {
+                Term::Short => State::ShortHighest,
+                Term::Raised => State::RaisedHighest,
+                Term::Long(0) => State::FirstHighest,
+                Term::Long(place) if place == last => State::LastHighest,
+                Term::Long(_) => State::MiddleHighest,
+            };
+            self.reach_if(true, state);
+            let security = &book.securities[short.security];
+            let doubled = security.latest_price.map_or(0, |latest| 2 * u64::from(latest.price));
+            let is_long = matches!(term, Term::Long(_));
+            self.reach_if(security.class == 3 && is_long && price < doubled, State::LongHighest3);
+        }
+        self.higher_longs(book, short, price, &answer.pieces);
+    }
+
+    /// The longs of the security without a piece whose reference price is above the price of the settlement. Those with
+    /// nothing open come first, since each discharge begins with the first long that is open.
+    fn higher_longs(&mut self, book: &Book, short: &Position, price: u64, pieces: &[Piece]) {
+        let longs = book.securities[short.security].longs.iter().map(|&place| (place + 1, &book.positions[place]));
+        for (number, long) in longs.filter(|(_, long)| u64::from(long.reference_price) > price) {
+            let is_due = long.is_due(book.day);
+            let is_before = pieces.first().is_some_and(|piece| number < usize::from(piece.long));
+            let is_after = pieces.last().is_some_and(|piece| number > usize::from(piece.long));
+            self.reach_if(is_due && is_after && long.open() > 0, State::HigherAfter);
+            self.reach_if(is_due && is_before && long.open() == 0, State::HigherEmpty);
+            self.reach_if(!is_due, State::HigherNotDue);
         }
     }
 

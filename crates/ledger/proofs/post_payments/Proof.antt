@@ -1,34 +1,33 @@
 -- `ledger::post_payments` meets its contract: the pieces before the place are priced and paid for, and the rest is as it was.
 use borrow.Author.Needs.{needs}
 use native.Mathlib.Omega.{arith}
-use Prim.Native.Nat.{_+_, _-_, _*_, _≤_, _<_}
+use Prim.Native.Nat.{_+_, _-_, _*_, _≤_}
 use mathlib.Core.Path.{_≡_, refl, _∙_}
 use mathlib.Core.List.{_∷_}
 use lib.ListN.{length, getD}
 use Rattle.plain.specs.declared.Piece.{Piece}
 use Rattle.plain.specs.declared.Manner.the-variants.{Cash}
 use Rattle.plain.specs.Book.{noPosition}
-use Rattle.tables.specs.Tables.{positions, pieces}
+use Rattle.tables.specs.Tables.{pieces}
 use Rattle.rows.specs.Rows.{rowsOf}
 use Rattle.pieces.specs.Sheet.{piecesOf}
 use Rattle.tables.specs.Lent.{positionTable}
-use Rattle.plain.specs.Charging.{pricedBy}
+use Rattle.plain.specs.Charging.{pricedAt}
 use Rattle.ledger.specs.Tabled.{Accounted, Paired}
 use Rattle.ledger.proofs.Posting.{Posting, PostingAt, ahead, credit-fits, debit-fits, posting-start, posting-one, place-some, place-end}
 use Rattle.ledger.proofs.Elements.{element, position-numbered}
-use Rattle.ledger.proofs.Settling.{Changing, changing-start, changing-at, changing-one, changing-end, piece-fits}
-use Rattle.ledger.specs.Settling.{paymentBy, paymentsBy, Owed}
-use Rattle.ledger.proofs.Settling.{noPiece, priced-here, payment-here}
+use Rattle.ledger.specs.Settling.{paymentAt, paymentsAt, OwedBy}
+use Rattle.ledger.proofs.Settling.{Changing, changing-start, changing-at, changing-one, changing-end, noPiece, priced-here, payment-here}
 use Rattle.ledger.proofs.post_payments.Statement.{statement}
 use Rattle.ledger.proofs.post_payments.Tie as tie
 
 abbrev Inv-loop : tie.InvT-loop
-Inv-loop rows held sheet₀ dealt short class latest after₀ i₀ sheet after i =
-    (Changing (pricedBy class latest (positions (positionTable rows held))) dealt (piecesOf Cash sheet₀) i (piecesOf Cash sheet))
-    × (PostingAt (paymentBy class latest (positionTable rows held)) dealt (piecesOf Cash sheet₀) after₀ i after) × (i ≤ dealt) × (length sheet ≡ 4096)
+Inv-loop rows held sheet₀ dealt payer price after₀ i₀ sheet after i =
+    (Changing (pricedAt price) dealt (piecesOf Cash sheet₀) i (piecesOf Cash sheet))
+    × (PostingAt (paymentAt price (positionTable rows held)) dealt (piecesOf Cash sheet₀) after₀ i after) × (i ≤ dealt) × (length sheet ≡ 4096)
 
 abbrev μ-loop : tie.MeasureT-loop
-μ-loop rows held sheet₀ dealt short class latest after₀ i₀ sheet after i = dealt - i
+μ-loop rows held sheet₀ dealt payer price after₀ i₀ sheet after i = dealt - i
 
 abbrev start : tie.In-loop Inv-loop μ-loop → tie.Start Inv-loop μ-loop
 start y = y .before .before
@@ -47,9 +46,9 @@ paired : (y : tie.In-loop Inv-loop μ-loop) → Paired (start y .args .held) (pi
 unfolding pieces
 paired y = rw (same y) (element (Paired _) _ _ noPiece _ (long (start y)) (y .loop-test .taken) (start y .pre .0 .priceable .paired))
 
-owed : (y : tie.In-loop Inv-loop μ-loop) → let a = start y .args in Owed (positionTable (a .rows .now) (a .held)) (a .short) (pieceAt y)
+owed : (y : tie.In-loop Inv-loop μ-loop) → let a = start y .args in OwedBy (a .payer) (positionTable (a .rows .now) (a .held)) (pieceAt y)
 unfolding pieces
-owed y = rw (same y) (element (Owed _ _) _ _ noPiece _ (long (start y)) (y .loop-test .taken) (start y .pre .0 .owed))
+owed y = rw (same y) (element (OwedBy _ _) _ _ noPiece _ (long (start y)) (y .loop-test .taken) (start y .pre .0 .owed))
 
 -- the long of the piece
 abbrev turn : tie.After-row-at Inv-loop μ-loop → tie.In-loop Inv-loop μ-loop
@@ -63,29 +62,22 @@ accounted r =
     let s = start (turn r) in
     rw (long-is r) (position-numbered (positionTable (s .args .rows .now) (s .args .held)) (s .pre .0 .priceable .positions-fit) Accounted _ (paired (turn r) .long) (s .pre .0 .accounted))
 
-reference : (r : tie.After-row-at Inv-loop μ-loop) → r .row-at .result .reference ≤ 10000000
-reference r =
-    let s = start (turn r) in
-    rw (long-is r) (position-numbered (positionTable (s .args .rows .now) (s .args .held)) (s .pre .0 .priceable .positions-fit) (λ p. p .reference ≤ 10000000) _ (paired (turn r) .long) (s .pre .0 .priceable .references))
-
 -- the piece's payment is the next charge to be posted
-posting : (x : tie.After-cash-price Inv-loop μ-loop)
-    → let r = x .before in
-    let y = turn r in
+posting : (r : tie.After-row-at Inv-loop μ-loop)
+    → let y = turn r in
     let a = start y .args in
-    let f = paymentBy (a .class) (a .latest) (positionTable (a .rows .now) (a .held)) in
+    let f = paymentAt (a .price) (positionTable (a .rows .now) (a .held)) in
     Posting (a .ledger) (ahead f (a .dealt) (piecesOf Cash (a .sheet .now)) 0)
-    (record { payer = a .short .member; payee = r .row-at .result .member; cents = r .before .units-at .result * x .cash-price .result } ∷ ahead f (a .dealt) (piecesOf Cash (a .sheet .now)) (y .before .loop .i + 1))
+    (record { payer = a .payer; payee = r .row-at .result .member; cents = r .before .units-at .result * a .price } ∷ ahead f (a .dealt) (piecesOf Cash (a .sheet .now)) (y .before .loop .i + 1))
     (y .before .loop .after)
-posting x =
-    let r = x .before in
+posting r =
     let y = turn r in
     place-some _ _ _ (long (start y)) _ _ _ noPiece _ (y .loop-test .taken)
-    (rw (← same y) (payment-here _ _ _ _ (pieceAt y) _ _ _ (paired y) (owed y) (long-is r) (r .before .units-at .ensures Cash) (x .cash-price .ensures)))
+    (rw (← same y) (payment-here _ _ _ (pieceAt y) _ _ (paired y) (owed y) (long-is r) (r .before .units-at .ensures Cash)))
     (y .before .loop .inv .1)
 
 loop-holds : tie.Need-loop-holds Inv-loop μ-loop
-unfolding paymentsBy pieces
+unfolding paymentsAt pieces
 loop-holds c = (changing-start _ _ _, posting-start _ _ (c .pre .0 .room), omega arith, c .pre .1)
 
 long-at-requires : tie.Need-long-at-requires Inv-loop μ-loop
@@ -112,57 +104,49 @@ row-at-requires c κs =
     let y = l .before .before in
     omega (arith, l .long-at .ensures Cash, paired y .long .above, paired y .long .below, start y .pre .0 .priceable .positions-fit .held)
 
-cash-price-requires : tie.Need-cash-price-requires Inv-loop μ-loop
-cash-price-requires c κs = search needs
-
 cast-cents : tie.Need-cast-cents Inv-loop μ-loop
 cast-cents c = search needs
 
 mul-cents : tie.Need-mul-cents Inv-loop μ-loop
-mul-cents c =
-    let r = c .before in
-    let s = start (turn r) in
-    let few : r .before .units-at .result < 4294967296 = omega arith in
-    record { fits = piece-fits _ _ _ _ _ _ few (s .pre .0 .reference) (reference r) (s .pre .0 .priceable .price) (c .cash-price .ensures) }
+mul-cents c = record { fits = omega (arith, credit-fits _ _ _ (posting c .room) 0) }
 
 put-cents-requires : tie.Need-put-cents-requires Inv-loop μ-loop
 put-cents-requires c κs =
-    let y = turn (c .before .before) in
+    let y = turn (c .before) in
     (y .before .loop .inv .3, omega (arith, y .loop-test .taken, start y .pre .0 .priceable .pieces-fit .held))
 
 raise-place-requires : tie.Need-raise-place-requires Inv-loop μ-loop
 raise-place-requires c κs =
-    let x = c .before .before .before in
-    (accounted (x .before) .member, credit-fits _ _ _ (posting x .room) _)
+    let r = c .before .before .before in
+    (accounted r .member, credit-fits _ _ _ (posting r .room) _)
 
 raise-place-requires-2 : tie.Need-raise-place-requires-2 Inv-loop μ-loop
 raise-place-requires-2 c κs =
-    let x = c .before .before .before .before .before in
-    (start (turn (x .before)) .pre .0 .payer, debit-fits _ _ _ (posting x .room) _)
+    let r = c .before .before .before .before .before in
+    (start (turn r) .pre .0 .account, debit-fits _ _ _ (posting r .room) _)
 
 add-i : tie.Need-add-i Inv-loop μ-loop
 add-i c =
-    let y = turn (c .before .before .before .before .before .before .before) in
+    let y = turn (c .before .before .before .before .before .before) in
     omega (arith, y .loop-test .taken, start y .pre .0 .priceable .pieces-fit .held)
 
 loop-less : tie.Need-loop-less Inv-loop μ-loop
-loop-less c = omega (arith, turn (c .before .before .before .before .before .before .before) .loop-test .taken)
+loop-less c = omega (arith, turn (c .before .before .before .before .before .before) .loop-test .taken)
 
 loop-again : tie.Need-loop-again Inv-loop μ-loop
 loop-again c =
     let w = c .before .before .before .before in
-    let x = w .before .before in
-    let r = x .before in
+    let r = w .before .before in
     let y = turn r in (
       rw (w .put-cents .ensures .0 Cash)
-          (changing-one _ _ _ (long (start y)) _ _ noPiece (y .loop-test .taken) (y .before .loop .inv .0) _ (priced-here _ _ _ _ (pieceAt y) _ _ _ (paired y) (owed y) (long-is r) (r .before .units-at .ensures Cash) (x .cash-price .ensures))),
-      rw (c .before .before .raise-place .ensures, c .raise-place2 .ensures) (posting-one _ _ _ _ _ (posting x)),
+          (changing-one _ _ _ (long (start y)) _ _ noPiece (y .loop-test .taken) (y .before .loop .inv .0) _ (priced-here _ _ _ (pieceAt y) _ _ (paired y) (owed y) (long-is r) (r .before .units-at .ensures Cash))),
+      rw (c .before .before .raise-place .ensures, c .raise-place2 .ensures) (posting-one _ _ _ _ _ (posting r)),
       omega (arith, y .loop-test .taken),
       w .put-cents .ensures .1,
     )
 
 returns : tie.Need-returns Inv-loop μ-loop
-unfolding paymentsBy pieces
+unfolding paymentsAt pieces
 returns c =
     let i = c .before .loop .inv in
     let s = c .before .before in
@@ -188,7 +172,6 @@ post-payments-spec =
     sub-place
     cast-place
     row-at-requires
-    cash-price-requires
     cast-cents
     mul-cents
     put-cents-requires
