@@ -7,7 +7,7 @@ pub const WIDTH: usize = 16;
 
 #[derive(Clone, Copy, Debug, PartialEq, Eq)]
 pub enum Event {
-    Trade { security: u16, seller: u8, buyer: u8, quantity: u32, price: u32 },
+    Trade { security: u16, seller: Party, buyer: Party, quantity: u32, price: u32 },
     Price { security: u16, price: u32 },
     Delivery { short: u16, quantity: u32 },
     Attempt { short: u16 },
@@ -16,6 +16,24 @@ pub enum Event {
     Confirm { award: u16 },
     Cash { short: u16 },
     Close,
+}
+
+/// A side of a trade: a member, and the byte that says whether it trades for itself or for a client. Other bytes are kept
+/// as they are: the book refuses them, not the file.
+#[derive(Clone, Copy, Debug, PartialEq, Eq)]
+pub struct Party {
+    pub member: u8,
+    pub kind: u8,
+}
+
+impl Party {
+    pub const fn own(member: u8) -> Party {
+        Party { member, kind: 0 }
+    }
+
+    pub const fn client(member: u8) -> Party {
+        Party { member, kind: 1 }
+    }
 }
 
 pub type Body = [u8; WIDTH];
@@ -71,21 +89,23 @@ pub fn file_of(events: &[Event]) -> Vec<u8> {
 }
 
 impl Event {
-    fn read(kind: u8, body: &[u8]) -> Option<Event> {
+    /// The event of a kind, with the fields that the kind uses. The body has its whole width.
+    pub fn read(kind: u8, body: &[u8]) -> Option<Event> {
         let word = |at: usize| u32::from_le_bytes([body[at], body[at + 1], body[at + 2], body[at + 3]]);
         let named = u16::from_le_bytes([body[0], body[1]]);
-        let (first, second) = (body[2], body[3]);
-        Event::of(kind, named, first, second, word(4), word(8))
+        let first = Party { member: body[2], kind: body[12] };
+        let second = Party { member: body[3], kind: body[13] };
+        Event::of(kind, named, [first, second], word(4), word(8))
     }
 
-    /// The event of a kind, with the fields that the kind uses. No other number than 1 to 9 is a kind.
-    pub fn of(kind: u8, named: u16, first: u8, second: u8, quantity: u32, price: u32) -> Option<Event> {
+    /// As `read`, from the fields. No other number than 1 to 9 is a kind.
+    pub fn of(kind: u8, named: u16, [first, second]: [Party; 2], quantity: u32, price: u32) -> Option<Event> {
         Some(match kind {
             1 => Event::Trade { security: named, seller: first, buyer: second, quantity, price },
             2 => Event::Price { security: named, price },
             3 => Event::Delivery { short: named, quantity },
             4 => Event::Attempt { short: named },
-            5 => Event::Offer { short: named, offerer: first, quantity, price },
+            5 => Event::Offer { short: named, offerer: first.member, quantity, price },
             6 => Event::Award { short: named },
             7 => Event::Confirm { award: named },
             8 => Event::Cash { short: named },
@@ -109,19 +129,21 @@ impl Event {
     }
 
     pub fn body(&self) -> Body {
+        // Where there is no such member, or it is no side of a trade, its bytes are spare and so zero, as those of own are.
+        let (nobody, alone) = (Party::own(0), Party::own);
         let (named, first, second, quantity, price) = match *self {
             Event::Trade { security, seller, buyer, quantity, price } => (security, seller, buyer, quantity, price),
-            Event::Price { security, price } => (security, 0, 0, 0, price),
-            Event::Delivery { short, quantity } => (short, 0, 0, quantity, 0),
-            Event::Offer { short, offerer, quantity, price } => (short, offerer, 0, quantity, price),
-            Event::Attempt { short } | Event::Award { short } | Event::Cash { short } => (short, 0, 0, 0, 0),
-            Event::Confirm { award } => (award, 0, 0, 0, 0),
-            Event::Close => (0, 0, 0, 0, 0),
+            Event::Price { security, price } => (security, nobody, nobody, 0, price),
+            Event::Delivery { short, quantity } => (short, nobody, nobody, quantity, 0),
+            Event::Offer { short, offerer, quantity, price } => (short, alone(offerer), nobody, quantity, price),
+            Event::Attempt { short } | Event::Award { short } | Event::Cash { short } => (short, nobody, nobody, 0, 0),
+            Event::Confirm { award } => (award, nobody, nobody, 0, 0),
+            Event::Close => (0, nobody, nobody, 0, 0),
         };
         let mut body = [0; WIDTH];
         body[0..2].copy_from_slice(&named.to_le_bytes());
-        body[2] = first;
-        body[3] = second;
+        [body[2], body[12]] = [first.member, first.kind];
+        [body[3], body[13]] = [second.member, second.kind];
         body[4..8].copy_from_slice(&quantity.to_le_bytes());
         body[8..12].copy_from_slice(&price.to_le_bytes());
         body

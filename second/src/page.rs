@@ -1,6 +1,6 @@
 //! The desk's page: the positions that a file leaves on a new book, each on a line of 80 columns.
 
-use crate::book::{Position, Side};
+use crate::book::{Business, Position, Side};
 use crate::refusal::Refusal;
 use crate::register::Security;
 use crate::transcript;
@@ -34,10 +34,13 @@ fn line(number: u16, position: &Position, securities: &[Security]) -> String {
         Side::Short => 'D',
         Side::Long => 'R',
     };
+    let kind = match position.kind {
+        Business::Own => 'O',
+        Business::Client => 'C',
+    };
     let quantities: String = [netted, delivered, bought_in, cash, position.open()]
         .into_iter()
         .map(|quantity| format!(" {quantity:>9}"))
         .collect();
-    let columns = format!("{number:>4} {member:>2} {isin:>12} {side}{quantities} {delivery_day:>5}");
-    format!("{columns:<80}\n")
+    format!("{number:>4} {member:>2} {isin:>12} {side}{quantities} {delivery_day:>5} {kind}\n")
 }

@@ -1,5 +1,5 @@
-//! The refusals of document 01, 'Why a call is turned down', and of document 02, Slip 1, 'The desk's page', and Slip 3,
-//! 'How old is a price', by their numbers there.
+//! The refusals of document 01, 'Why a call is turned down', and of document 02, Slip 1, 'The desk's page', Slip 3, 'How
+//! old is a price', and Slip 5, 'Own and client accounts', by their numbers there.
 
 #[derive(Clone, Copy, Debug, PartialEq, Eq)]
 pub enum Refusal {
@@ -35,6 +35,7 @@ pub enum Refusal {
     After2099 = 30,
     PageSize = 31,
     OldPrice = 32,
+    TradeKind = 33,
 }
 
 /// A refusal of a register or an event file, with the number of the security or event that it meets, if it meets one.

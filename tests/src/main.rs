@@ -50,6 +50,7 @@ fn exhaustive(tests: &mut Tests, calendar: &Calendar) {
     compare::player::exhaustive(tests);
     compare::prices::exhaustive(tests);
     compare::one_price::exhaustive(tests);
+    compare::kinds::exhaustive(tests);
     compare::sheets::exhaustive(tests);
     compare::lines::exhaustive(tests);
     compare::page::exhaustive(tests);
@@ -73,6 +74,7 @@ fn seeded(round: &mut Round, calendar: &Calendar) {
     compare::player::seeded(round);
     compare::prices::seeded(round);
     compare::one_price::seeded(round);
+    compare::kinds::seeded(round);
     compare::sheets::seeded(round);
     compare::lines::seeded(round);
     compare::page::seeded(round);

@@ -13,7 +13,7 @@
 use crate::histories::registers::with_classes;
 use crate::random::Random;
 use second::book::{GREATEST_QUANTITY, MOST_ATTEMPTS, MOST_OFFERS, MOST_TRADES};
-use second::events::{file_of, Event, MOST_EVENTS};
+use second::events::{file_of, Event, Party, MOST_EVENTS};
 use second::refusal::Refusal;
 use second::register::{self, Security};
 
@@ -216,11 +216,12 @@ fn accepted(events: impl IntoIterator<Item = Event>) -> impl Iterator<Item = Cal
     events.into_iter().map(|event| (event, ACCEPTED))
 }
 
-/// Sellers are members 1 to 16, buyers 33 to 48.
+/// Sellers are members 1 to 16, buyers 33 to 48, all for themselves.
 fn trade(at: usize) -> Event {
     let seller = (1 + at / SECURITIES) as u8;
+    let [seller, buyer] = [seller, 32 + seller].map(Party::own);
     let quantity = if at < SECURITIES { GREATEST_QUANTITY } else { QUANTITY };
-    Event::Trade { security: security(at), seller, buyer: 32 + seller, quantity, price: PRICE }
+    Event::Trade { security: security(at), seller, buyer, quantity, price: PRICE }
 }
 
 fn price(at: usize) -> Event {

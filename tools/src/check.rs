@@ -140,10 +140,8 @@ fn event(file: &[u8], refusal: Refusal, number: usize) -> String {
     }
     let start = 4 + count + WIDTH * (number - 1);
     let body = &file[start..start + WIDTH];
-    let word = |at: usize| u32::from_le_bytes([body[at], body[at + 1], body[at + 2], body[at + 3]]);
-    let named = u16::from_le_bytes([body[0], body[1]]);
     // Writing the event leaves zeros in its spare bytes, so the first byte that differs is one.
-    let written = Event::of(kind, named, body[2], body[3], word(4), word(8)).map_or([0; WIDTH], |event| event.body());
+    let written = Event::read(kind, body).map_or([0; WIDTH], |event| event.body());
     let at = (0..WIDTH).find(|&at| body[at] != written[at]).unwrap_or(0);
     format!("byte {at} of its body is spare in an event of kind {kind}, and is {} and not 0", body[at])
 }

@@ -11,7 +11,10 @@
 //! - `award`: the award of a confirmation, buy-in difference or fine.
 //! - `member`: seller or offerer; the member of the position or of the piece's short; who pays; the account. 0 is the
 //!   house.
+//! - `member_kind`: own or client, of the seller, the position or the piece's short; a byte that is no kind by its number.
+//!   Who offers or pays does so for its one account and has none.
 //! - `counterparty`: buyer; the member of the piece's long; who is paid.
+//! - `counterparty_kind`: as `member_kind`, of the buyer or the piece's long.
 //! - `side`: of a position: short or long.
 //! - `stated_quantity`: what a trade, delivery or offer says, whether it is accepted or not.
 //! - `quantity`: what the player answers to the event; the units of a piece or charge.
@@ -28,6 +31,7 @@
 //!
 //! A fine on a short of which nothing is open is no row, and neither is an account of 0 cents.
 
+use crate::kinds;
 use crate::played::{holder, manner_name, side_name, Done, Kind, Played, Refused, Step};
 use crate::words;
 use second::book::{Cause, Charge, Piece, Position};
@@ -91,7 +95,9 @@ struct Row {
     long: Field,
     award: Field,
     member: Field,
+    member_kind: Field,
     counterparty: Field,
+    counterparty_kind: Field,
     side: Field,
     stated_quantity: Field,
     quantity: Field,
@@ -114,7 +120,7 @@ struct Row {
 
 impl Row {
     /// The columns in their order, by name.
-    fn fields(&self) -> [(&'static str, &Field); 30] {
+    fn fields(&self) -> [(&'static str, &Field); 32] {
         [
             ("record", &self.record),
             ("event", &self.event),
@@ -127,7 +133,9 @@ impl Row {
             ("long", &self.long),
             ("award", &self.award),
             ("member", &self.member),
+            ("member_kind", &self.member_kind),
             ("counterparty", &self.counterparty),
+            ("counterparty_kind", &self.counterparty_kind),
             ("side", &self.side),
             ("stated_quantity", &self.stated_quantity),
             ("quantity", &self.quantity),
@@ -175,6 +183,15 @@ impl Row {
     }
 }
 
+/// The kind of a trade's side: its name, or the number of a byte that has none.
+fn kind_of_byte(byte: u8) -> Field {
+    kinds::name_of_byte(byte).map_or_else(|| number(byte), text)
+}
+
+fn kind_of(position: &Position) -> Field {
+    text(kinds::name(position.kind))
+}
+
 /// As a text file has it.
 fn kind(event: &Event) -> &'static str {
     match event {
@@ -211,8 +228,10 @@ fn stated(played: &Played, step: &Step) -> Row {
     let row = Row { text: text(words::call(step)), ..Row::of("event", step) };
     match step.event {
         Event::Trade { security, seller, buyer, quantity, price } => Row {
-            member: number(seller),
-            counterparty: number(buyer),
+            member: number(seller.member),
+            member_kind: kind_of_byte(seller.kind),
+            counterparty: number(buyer.member),
+            counterparty_kind: kind_of_byte(buyer.kind),
             stated_quantity: number(quantity),
             price: number(price),
             ..row.of_security(played, security)
@@ -263,10 +282,13 @@ fn pieces(played: &Played) -> impl Iterator<Item = Row> + '_ {
 
 fn piece_row(played: &Played, step: &Step, piece: &Piece) -> Row {
     let &Piece { short, long, quantity, manner, cents } = piece;
+    let [from, to] = [short, long].map(|position| played.position(position));
     Row {
         long: number(long),
-        member: number(played.position(short).member),
-        counterparty: number(played.position(long).member),
+        member: number(from.member),
+        member_kind: kind_of(from),
+        counterparty: number(to.member),
+        counterparty_kind: kind_of(to),
         quantity: number(quantity),
         manner: text(manner_name(manner)),
         cents: number(cents),
@@ -284,6 +306,7 @@ fn position_row(played: &Played, step: &Step, position: u16) -> Row {
     let &Position { member, side, delivery_day, reference_price, netted, delivered, bought_in, cash, .. } = held;
     Row {
         member: number(member),
+        member_kind: kind_of(held),
         side: text(side_name(side)),
         reference_price: number(reference_price),
         delivery_day: number(delivery_day),

@@ -7,6 +7,7 @@
 pub mod check;
 pub mod csv;
 pub mod html;
+pub mod kinds;
 pub mod numbers;
 pub mod output;
 pub mod page;

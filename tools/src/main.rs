@@ -32,7 +32,7 @@ Status: 0 where the file was played; 1 where it was refused, could not be read o
 A text file has first a line for each security, then a line for each event:
 
     security CLASS ISIN
-    trade SELLER BUYER SECURITY QUANTITY PRICE
+    trade SELLER [KIND] BUYER [KIND] SECURITY QUANTITY PRICE
     price SECURITY PRICE
     delivery POSITION QUANTITY
     attempt POSITION
@@ -43,7 +43,8 @@ A text file has first a line for each security, then a line for each event:
     close
 
 Securities and positions are numbered from 1. Blank lines and comments after a # are skipped, 1,000 and 1_000 are
-1000, and `close 5` stands for five closes. The folder examples/ has files of both forms.
+1000, and `close 5` stands for five closes. A KIND is own or client, or `kind 7` for any byte, and own where it is left
+out, as in `trade 1 client 2 1 100 1000`. The folder examples/ has files of both forms.
 ";
 
 #[derive(Clone, Copy, PartialEq, Eq)]

@@ -1,8 +1,9 @@
 //! Why a call was refused, in words: the one reason that applied, on the book that refused it.
 
+use crate::kinds;
 use crate::numbers::{counted, grouped};
 use second::book::{Book, Position, GREATEST_PRICE, GREATEST_QUANTITY, LAST_DAY, MEMBERS, MOST_OFFERS, MOST_TRADES};
-use second::events::Event;
+use second::events::{Event, Party};
 use second::refusal::Refusal;
 
 /// What the event names, in its fields.
@@ -12,6 +13,8 @@ struct Named {
     short: u16,
     award: u16,
     members: Vec<(&'static str, u8)>,
+    /// The bytes of the kinds of a trade's sides.
+    kinds: Vec<(&'static str, u8)>,
     quantity: u32,
     price: u32,
 }
@@ -19,7 +22,9 @@ struct Named {
 fn named(event: &Event) -> Named {
     match *event {
         Event::Trade { security, seller, buyer, quantity, price } => {
-            Named { security, members: vec![("seller", seller), ("buyer", buyer)], quantity, price, ..Named::default() }
+            let of_both = |field: fn(Party) -> u8| vec![("seller", field(seller)), ("buyer", field(buyer))];
+            let [members, kinds] = [of_both(|party| party.member), of_both(|party| party.kind)];
+            Named { security, members, kinds, quantity, price, ..Named::default() }
         }
         Event::Price { security, price } => Named { security, price, ..Named::default() },
         Event::Delivery { short, quantity } => Named { short, quantity, ..Named::default() },
@@ -45,7 +50,8 @@ pub fn reason(book: &Book, event: &Event, refusal: Refusal) -> String {
         Refusal::NotThere => not_there(book, event, &named),
         Refusal::Quantity => quantity(named.quantity),
         Refusal::Price => price(named.price),
-        Refusal::SellerIsBuyer => "seller is buyer".to_string(),
+        Refusal::SellerIsBuyer => format!("seller is buyer, both sides {}", kinds::of_byte(named.kinds[0].1)),
+        Refusal::TradeKind => trade_kind(&named),
         Refusal::TradesFull => format!("{MOST_TRADES} trades are held"),
         Refusal::Long => format!("position {} is long", grouped(named.short)),
         Refusal::Window => window(book, event, named.short),
@@ -86,6 +92,16 @@ fn member(named: &Named) -> String {
         .iter()
         .filter(|member| !is_member(member))
         .map(|(role, number)| format!("the {role} {number} is not a member from 1 to {MEMBERS}"))
+        .collect();
+    wrong.join(", and ")
+}
+
+fn trade_kind(named: &Named) -> String {
+    let wrong: Vec<String> = named
+        .kinds
+        .iter()
+        .filter(|(_, byte)| kinds::name_of_byte(*byte).is_none())
+        .map(|(role, byte)| format!("the {role}'s kind is {byte}, not own or client"))
         .collect();
     wrong.join(", and ")
 }

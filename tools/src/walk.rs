@@ -4,6 +4,7 @@
 //! the netted units of a position and takes off its pieces in order. What is left must be what the player has open,
 //! and both walks must come to the same units and cents for each pair of a short and a long.
 
+use crate::kinds;
 use crate::numbers::{counted, grouped};
 use crate::output::{Line, Piece, Position};
 use crate::played::{manner_name, side_name, Played, Step};
@@ -304,7 +305,7 @@ fn text(side: Side, played: &Played, positions: &[Both], walked: &[Walked]) -> S
         Side::Short => ("forward, from each short to its longs:", Side::Long),
         Side::Long => ("back, from each long to its shorts:", Side::Short),
     };
-    let head: Row = ["day", "event", "manner", "units", side_name(other), "member", "cents", "left open"]
+    let head: Row = ["day", "event", "manner", "units", side_name(other), "member", "kind", "cents", "left open"]
         .map(str::to_string)
         .into();
     let rows: Vec<Vec<Row>> = walked.iter().map(|walked| rows(other, positions, walked)).collect();
@@ -326,15 +327,16 @@ fn text(side: Side, played: &Played, positions: &[Both], walked: &[Walked]) -> S
 
 /// A position without pieces has no other line; all that it netted is open.
 fn heading(played: &Played, walked: &Walked) -> String {
-    let (Position { number, member, side, netted, .. }, made) = walked.position;
+    let (Position { number, side, netted, .. }, made) = walked.position;
     let (_, isin) = played.register[made.security];
     let units = match walked.pieces[..] {
         [] => format!("no pieces, {} open", grouped(walked.open())),
         _ => format!("{} netted", counted(*netted, "unit")),
     };
     format!(
-        "{} {number}: member {member}, security {} ({}), delivery day {}, {units}\n",
+        "{} {number}: {}, security {} ({}), delivery day {}, {units}\n",
         side_name(*side),
+        kinds::holder(made),
         made.security + 1,
         isin.escape_ascii(),
         grouped(made.delivery_day)
@@ -346,7 +348,7 @@ fn rows(other: Side, positions: &[Both], walked: &Walked) -> Vec<Row> {
     let row = |&(taken, open): &(&Taken, u64)| {
         let number = taken.position(other);
         // Where both walks meet, it is there.
-        let (Position { member, .. }, _) = positions[number as usize - 1];
+        let (Position { member, .. }, made) = positions[number as usize - 1];
         let cents = match taken.manner {
             Manner::Cash => grouped(taken.piece.cents),
             _ => String::new(),
@@ -358,6 +360,7 @@ fn rows(other: Side, positions: &[Both], walked: &Walked) -> Vec<Row> {
             grouped(taken.piece.quantity),
             number.to_string(),
             member.to_string(),
+            kinds::name(made.kind).to_string(),
             cents,
             grouped(open),
         ]

@@ -1,5 +1,6 @@
 //! A play in words: each event with what became of it, then the positions and the accounts at the end.
 
+use crate::kinds;
 use crate::numbers::{counted, grouped};
 use crate::played::{holder, side_name, Done, Kind, Played, Refused, Step, KINDS};
 use crate::table::{aligned, widths, Row};
@@ -47,6 +48,7 @@ pub fn call(step: &Step) -> String {
     match step.event {
         Event::Trade { security, seller, buyer, quantity, price } => {
             let [units, price] = [counted(quantity, "unit"), grouped(price)];
+            let [seller, buyer] = [seller, buyer].map(kinds::with_member);
             format!("trade: member {seller} sells {units} of security {security} at {price} to member {buyer}")
         }
         Event::Price { security, price } => format!("price of {} for security {security}", grouped(price)),
@@ -98,7 +100,7 @@ pub fn award_words(number: usize, award: &Award) -> String {
 fn piece_words(played: &Played, step: &Step, piece: &Piece) -> String {
     let &Piece { short, long, quantity, cents, .. } = piece;
     let [from, to] =
-        [short, long].map(|number| format!("position {number} (member {})", played.position(number).member));
+        [short, long].map(|number| format!("position {number} ({})", kinds::holder(played.position(number))));
     let price = match step.event {
         Event::Cash { .. } => format!(" for {}", counted(cents, "cent")),
         _ => String::new(),
@@ -107,9 +109,10 @@ fn piece_words(played: &Played, step: &Step, piece: &Piece) -> String {
 }
 
 fn made_words(number: usize, position: &Position) -> String {
-    let &Position { member, security, side, netted, delivery_day, reference_price, .. } = position;
+    let &Position { security, side, netted, delivery_day, reference_price, .. } = position;
     format!(
-        "position {number}: member {member} {} {} of security {}, delivery day {}, reference price {}",
+        "position {number}: {} {} {} of security {}, delivery day {}, reference price {}",
+        kinds::holder(position),
         side_name(side),
         counted(netted, "unit"),
         security + 1,
@@ -184,12 +187,13 @@ fn value(quantity: u32, short: u16, latest: u32) -> String {
 
 fn positions(played: &Played) -> String {
     let lines = played.book.positions().iter().zip(1..).map(|(position, number)| {
-        let &Position { member, side, netted, delivered, bought_in, cash, .. } = position;
+        let &Position { side, netted, delivered, bought_in, cash, .. } = position;
         let [netted, delivered, bought_in, cash, open] =
             [netted, delivered, bought_in, cash, position.open()].map(grouped);
         format!(
-            "position {number}: member {member}, {}: {netted} netted, {delivered} delivered, {bought_in} bought in, \
-             {cash} settled in cash, {open} open\n",
+            "position {number}: {}, {}: {netted} netted, {delivered} delivered, {bought_in} bought in, {cash} settled \
+             in cash, {open} open\n",
+            kinds::holder(position),
             side_name(side)
         )
     });

@@ -38,8 +38,8 @@ use tables::Pieces;
 
 pub struct Book {
     core: Core,
-    rows: [u32; 10240],
-    trades: [u32; 2560],
+    rows: [u32; 11264],
+    trades: [u32; 3584],
     awards: [u32; 1280],
     counts: [u32; 2048],
 }
@@ -66,8 +66,8 @@ pub struct Opened {
 // One value of a core and the tables that were lent with it.
 pub fn made_of(
     core: Core,
-    rows: [u32; 10240],
-    trades: [u32; 2560],
+    rows: [u32; 11264],
+    trades: [u32; 3584],
     awards: [u32; 1280],
     counts: [u32; 2048],
 ) -> Book

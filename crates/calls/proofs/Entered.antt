@@ -30,7 +30,7 @@ module _ (b : Core) (rows trades awards counts : List ℕ) (t : Trade) (h : Held
   pub trade-refused : number ≢ 0 → CalledBare b a (call (event.Trade t) 0) b a (outcome.Refused number) 0
   trade-refused some = refused b a (call (event.Trade t) 0) number h number-is some
 
-  pub trade-taken : number ≡ 0 → (exit : List ℕ) → tradesOf exit ≡ set (tradesOf trades) (b .trades) t → length exit ≡ 2560 → CalledBare b a (call (event.Trade t) 0) (tradedCore b) (numbers rows exit awards counts) (outcome.Done (t .quantity)) 0
+  pub trade-taken : number ≡ 0 → (exit : List ℕ) → tradesOf exit ≡ set (tradesOf trades) (b .trades) t → length exit ≡ 3584 → CalledBare b a (call (event.Trade t) 0) (tradedCore b) (numbers rows exit awards counts) (outcome.Done (t .quantity)) 0
   unfolding amount handsOut
   trade-taken z exit put long =
       let room : b .trades < 512 = trade-room (b .opening .register .count) (b .trades) t (sym e ∙ z) in

@@ -72,8 +72,8 @@ pub record Follows (day : ℕ) (rows : List ℕ) (count : ℕ) (counts : List �
 
 -- the numbers have their places, and what the core follows is true of them
 pub record Lent (b : Core) (a : Numbers) : Type 0 where
-  pub rows : length (a .rows) ≡ 10240
-  pub trades : length (a .trades) ≡ 2560
+  pub rows : length (a .rows) ≡ 11264
+  pub trades : length (a .trades) ≡ 3584
   pub awards : length (a .awards) ≡ 1280
   pub follows : Follows (b .day .0) (a .rows) (b .positions) (a .counts) (b .followed)
 
@@ -118,14 +118,14 @@ pub record Discharging (day : ℕ) (rows : List ℕ) (count : ℕ) (counts sheet
   pub member : p .member ≤ MEMBERS
   pub some : 0 < q
   pub follows : Follows day rows count counts f
-  pub rows-length : length rows ≡ 10240
+  pub rows-length : length rows ≡ 11264
   pub sheet-length : length sheet ≡ 4096
 
 -- and what it leaves of them, with so many pieces
 pub record Discharged (day : ℕ) (rows : List ℕ) (count n q : ℕ) (m : Manner) (after counts sheet : List ℕ) (f : Followed) (made : ℕ) : Type 0 where
   pub dealt : DealtOut (positionTable rows count) day n q m (record { positions = positionTable after count; pieces = pieceTable m sheet made })
   pub follows : Follows day after count counts f
-  pub rows-length : length after ≡ 10240
+  pub rows-length : length after ≡ 11264
   pub sheet-length : length sheet ≡ 4096
 
 -- a call that nothing turns down
@@ -141,7 +141,7 @@ pub record CashTerms (b : Core) (rows : List ℕ) (n : ℕ) (p : Position) (clas
 
 -- the numbers that are lent with a new book: no short is late, and the tables have their places
 pub record Blank (a : Numbers) : Type 0 where
-  pub rows : length (a .rows) ≡ 10240
-  pub trades : length (a .trades) ≡ 2560
+  pub rows : length (a .rows) ≡ 11264
+  pub trades : length (a .trades) ≡ 3584
   pub awards : length (a .awards) ≡ 1280
   pub counts : a .counts ≡ replicate 2048 0

@@ -175,8 +175,8 @@ fn price_of(latest: LatestPrice) -> u32
 // One event, by the call of its kind, on all tables and a sheet.
 pub fn step(
     core: Core,
-    rows: &mut [u32; 10240],
-    trades: &mut [u32; 2560],
+    rows: &mut [u32; 11264],
+    trades: &mut [u32; 3584],
     awards: &mut [u32; 1280],
     counts: &mut [u32; 2048],
     sheet: &mut [u64; 4096],

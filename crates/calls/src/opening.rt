@@ -105,16 +105,16 @@ pub fn new_core(opening: Opening) -> Core
 }
 
 // The tables that are lent with a new book. Only the counts have to be 0.
-pub fn blank_rows() -> [u32; 10240]
-    ensures { λ r. ⌜ (r ≡ replicate 10240 0) × (length r ≡ 10240) ⌝ }
+pub fn blank_rows() -> [u32; 11264]
+    ensures { λ r. ⌜ (r ≡ replicate 11264 0) × (length r ≡ 11264) ⌝ }
 {
-    [0u32; 10240]
+    [0u32; 11264]
 }
 
-pub fn blank_trades() -> [u32; 2560]
-    ensures { λ r. ⌜ (r ≡ replicate 2560 0) × (length r ≡ 2560) ⌝ }
+pub fn blank_trades() -> [u32; 3584]
+    ensures { λ r. ⌜ (r ≡ replicate 3584 0) × (length r ≡ 3584) ⌝ }
 {
-    [0u32; 2560]
+    [0u32; 3584]
 }
 
 pub fn blank_awards() -> [u32; 1280]

@@ -13,8 +13,8 @@ use crate::refused;
 use events::Price;
 use events::Trade;
 
-pub fn trade(core: Core, trades: &mut [u32; 2560], t: Trade) -> Answered
-    requires { ⌜ length (now trades) ≡ 2560 ⌝ }
+pub fn trade(core: Core, trades: &mut [u32; 3584], t: Trade) -> Answered
+    requires { ⌜ length (now trades) ≡ 3584 ⌝ }
     ensures { λ r. ⌜ ((rows awards counts : List ℕ) → Held core (numbers rows (now (trades .entry)) awards counts) → CalledBare core (numbers rows (now (trades .entry)) awards counts) (call (event.Trade t) 0) (r .core) (numbers rows (now (trades .exit)) awards counts) (r .outcome) (r .pieces)) ⌝ }
 {
     let number = refusals::trade_refusal(core.opening.register.count, core.trades, t);

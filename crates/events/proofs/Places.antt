@@ -13,7 +13,7 @@ use Rattle.laws.specs.Asked.{Said, passed, failed, ask}
 use Rattle.laws.specs.WordLaws.{word16-part, word32-part}
 use Rattle.laws.specs.Parts.{getD-part, padded, padded-more, padded-take}
 use Rattle.events.specs.declared.Event.{Event}
-use Rattle.events.specs.Layout.{HEADER, BODY, SUBJECT-AT, FIRST-AT, SECOND-AT, QUANTITY-AT, PRICE-AT}
+use Rattle.events.specs.Layout.{HEADER, BODY, SUBJECT-AT, FIRST-AT, SECOND-AT, QUANTITY-AT, PRICE-AT, FIRST-KIND-AT, SECOND-KIND-AT}
 use Rattle.events.specs.Body.{fieldsAt, eventFrom, eventRead}
 use Rattle.events.specs.Passing.{length-events}
 use Rattle.events.specs.File.{count, kindsIn, bodiesIn, paired, eventsOf}
@@ -27,7 +27,9 @@ fields-part file at =
     let two = getD-part file at BODY SECOND-AT 0 (omega arith) in
     let quantity = word32-part file at BODY QUANTITY-AT (omega arith) in
     let price = word32-part file at BODY PRICE-AT (omega arith) in
-    λ i. record { subject = subject i; first = one i; second = two i; quantity = quantity i; price = price i }
+    let kind-one = getD-part file at BODY FIRST-KIND-AT 0 (omega arith) in
+    let kind-two = getD-part file at BODY SECOND-KIND-AT 0 (omega arith) in
+    λ i. record { subject = subject i; first = one i; second = two i; quantity = quantity i; price = price i; firstkind = kind-one i; secondkind = kind-two i }
 
 -- body i of those that stand one after the other from a place on
 pub body-place : (file : List ℕ) (at i : ℕ) → take BODY (drop (BODY * i) (drop at file)) ≡ take BODY (drop (at + BODY * i) file)

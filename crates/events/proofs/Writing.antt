@@ -1,5 +1,5 @@
 -- A page on which the bytes of a body, the kind bytes and the bodies are written one after the other.
-use Prim.Native.Nat.{ℕ, _+_, _*_, _≤_, _<_}
+use Prim.Native.Nat.{ℕ, suc, _+_, _*_, _≤_, _<_}
 use native.Mathlib.Nat.{add-zero, mul-zero, mul-suc, add-comm}
 use native.Mathlib.Numerals.{add-one}
 use native.Mathlib.Omega.{arith}
@@ -15,27 +15,35 @@ use Rattle.laws.specs.Listed.{each-append}
 use Rattle.laws.specs.Parts.{sets-then, sets-front}
 use Rattle.events.specs.declared.Event.{Event}
 use Rattle.events.specs.declared.Fields.{Fields}
-use Rattle.events.specs.Layout.{COUNT-AT, WIDTH-AT, HEADER, BODY, SUBJECT-AT, FIRST-AT, SECOND-AT, QUANTITY-AT, PRICE-AT, LAST-AT}
+use Rattle.events.specs.Layout.{COUNT-AT, WIDTH-AT, HEADER, BODY, SUBJECT-AT, FIRST-AT, SECOND-AT, QUANTITY-AT, PRICE-AT, FIRST-KIND-AT, SECOND-KIND-AT, LAST-AT}
 use Rattle.events.specs.Body.{kindOf, fieldsOf, body, bodyOf, Fits}
 use Rattle.events.specs.File.{size, headerOf, fileOf, ReadsBack}
 use Rattle.events.specs.Inverse.{length-file, told, page-reads-back}
 
--- the six stores of a body, in their order
+-- the eight stores of a body, in their order
 pub body-written : (l l₁ l₂ l₃ l₄ : List ℕ) (at : ℕ) (f : Fields) → l₁ ≡ sets l (at + SUBJECT-AT) (bytes16 (f .subject))
     → l₂ ≡ sets (set (set l₁ (at + FIRST-AT) (f .first)) (at + SECOND-AT) (f .second)) (at + QUANTITY-AT) (bytes32 (f .quantity))
     → l₃ ≡ sets l₂ (at + PRICE-AT) (bytes32 (f .price))
-    → l₄ ≡ sets l₃ (at + LAST-AT) (bytes32 0)
+    → l₄ ≡ sets (set (set l₃ (at + FIRST-KIND-AT) (f .firstkind)) (at + SECOND-KIND-AT) (f .secondkind)) (at + LAST-AT) (bytes16 0)
     → l₄ ≡ sets l at (body f)
 unfolding body
 body-written l l₁ l₂ l₃ l₄ at f e₁ e₂ e₃ e₄ =
     let s : List ℕ = bytes16 (f .subject) in
     let q : List ℕ = bytes32 (f .quantity) in
     let p : List ℕ = bytes32 (f .price) in
-    let a = sets-then l l₁ (set l₁ (at + FIRST-AT) (f .first)) s (f .first ∷ []) at (at + FIRST-AT) (e₁ ∙ ap (λ (k : ℕ). sets l k s) (add-zero at)) refl (omega arith) in
-    let b = sets-then l (set l₁ (at + FIRST-AT) (f .first)) (set (set l₁ (at + FIRST-AT) (f .first)) (at + SECOND-AT) (f .second)) (s ++ (f .first ∷ [])) (f .second ∷ []) at (at + SECOND-AT) a refl (omega arith) in
-    let c = sets-then l (set (set l₁ (at + FIRST-AT) (f .first)) (at + SECOND-AT) (f .second)) l₂ (s ++ (f .first ∷ []) ++ (f .second ∷ [])) q at (at + QUANTITY-AT) b e₂ (omega arith) in
-    let d = sets-then l l₂ l₃ (s ++ (f .first ∷ []) ++ (f .second ∷ []) ++ q) p at (at + PRICE-AT) c e₃ (omega arith) in
-    sets-then l l₃ l₄ (s ++ (f .first ∷ []) ++ (f .second ∷ []) ++ q ++ p) (bytes32 0) at (at + LAST-AT) d e₄ (omega arith)
+    let m : List ℕ = s ++ (f .first ∷ []) ++ (f .second ∷ []) in
+    let front : l₁ ≡ sets l at s = e₁ ∙ ap (λ (k : ℕ). sets l k s) (add-zero at) in
+    let members = two-bytes l l₁ s at FIRST-AT (f .first) (f .second) front (omega arith) in
+    let c = sets-then l (set (set l₁ (at + FIRST-AT) (f .first)) (at + SECOND-AT) (f .second)) l₂ m q at (at + QUANTITY-AT) members e₂ (omega arith) in
+    let d = sets-then l l₂ l₃ (m ++ q) p at (at + PRICE-AT) c e₃ (omega arith) in
+    let kinds = two-bytes l l₃ (m ++ q ++ p) at FIRST-KIND-AT (f .firstkind) (f .secondkind) d (omega arith) in
+    sets-then l (set (set l₃ (at + FIRST-KIND-AT) (f .firstkind)) (at + SECOND-KIND-AT) (f .secondkind)) l₄ (m ++ q ++ p ++ (f .firstkind ∷ []) ++ (f .secondkind ∷ [])) (bytes16 0) at (at + LAST-AT) kinds e₄ (omega arith)
+  where
+    -- two bytes, one after the other, after what stands before them
+    two-bytes : (l l' front : List ℕ) (at n x y : ℕ) → l' ≡ sets l at front → length front ≡ n → set (set l' (at + n) x) (at + suc n) y ≡ sets l at (front ++ (x ∷ []) ++ (y ∷ []))
+    two-bytes l l' front at n x y e long =
+        let a = sets-then l l' (set l' (at + n) x) front (x ∷ []) at (at + n) e refl (omega (arith, long)) in
+        sets-then l (set l' (at + n) x) (set (set l' (at + n) x) (at + suc n) y) (front ++ (x ∷ [])) (y ∷ []) at (at + suc n) a refl (omega (arith, long, length-append front (x ∷ [])))
 
 -- an event's fields, written, are its body, as they stand in bytes that its kind uses
 pub event-written : (page next : List ℕ) (at : ℕ) (e : Event) (f : Fields) → next ≡ sets page at (body f) → f ≡ fieldsOf e → next ≡ sets page at (bodyOf e)

@@ -10,7 +10,7 @@ use Rattle.events.specs.File.{refusal, fileOf, eventsOf}
 -- "member 1 sells to member 2 100 units of security 1 at 1,000; close; close; deliver 100 of position 1"
 events : List Event
 events =
-    Event.Trade (record { seller = 1; buyer = 2; security = 1; quantity = 100; price = 1000 })
+    Event.Trade (record { seller = 1; buyer = 2; security = 1; quantity = 100; price = 1000; sellerkind = 0; buyerkind = 0 })
     ∷ Event.Close
     ∷ Event.Close
     ∷ Event.Delivery (record { position = 1; quantity = 100 })

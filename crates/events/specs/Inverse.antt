@@ -44,7 +44,7 @@ read-fields f h =
     let s : word16 (f .subject % 256) (f .subject / 256 % 256) ≡ f .subject = word16-bytes (f .subject) (h .subject) in
     let q : word32 (f .quantity % 256) (f .quantity / 256 % 256) (f .quantity / 65536 % 256) (f .quantity / 16777216 % 256) ≡ f .quantity = word32-bytes (f .quantity) (h .quantity) in
     let p : word32 (f .price % 256) (f .price / 256 % 256) (f .price / 65536 % 256) (f .price / 16777216 % 256) ≡ f .price = word32-bytes (f .price) (h .price) in
-    λ i. record { subject = s i; first = f .first; second = f .second; quantity = q i; price = p i }
+    λ i. record { subject = s i; first = f .first; second = f .second; quantity = q i; price = p i; firstkind = f .firstkind; secondkind = f .secondkind }
 
 -- what an event's kind and fields say of it: the kind is one, the event is the one of this kind with these fields, and
 -- its fields stand in bytes that its kind uses

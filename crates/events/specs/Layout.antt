@@ -44,8 +44,15 @@ QUANTITY-AT = 4
 abbrev pub PRICE-AT : ℕ
 PRICE-AT = 8
 
+-- "body byte 12 for the seller, 13 for the buyer" (document 02, Slip 5): the kinds of a trade's two sides
+abbrev pub FIRST-KIND-AT : ℕ
+FIRST-KIND-AT = 12
+
+abbrev pub SECOND-KIND-AT : ℕ
+SECOND-KIND-AT = 13
+
 abbrev pub LAST-AT : ℕ
-LAST-AT = 12
+LAST-AT = 14
 
 -- a body as two words: the bytes of each, and where they begin
 abbrev pub WORD : ℕ
@@ -68,7 +75,7 @@ abbrev pub usedBytes : List (List ℕ)
 usedBytes =
     (0 ∷ 0 ∷ 0 ∷ 0 ∷ 0 ∷ 0 ∷ 0 ∷ 0 ∷ 0 ∷ 0 ∷ 0 ∷ 0 ∷ 0 ∷ 0 ∷ 0 ∷ 0 ∷ [])
     -- 1 trade, 2 price, 3 delivery
-    ∷ (1 ∷ 1 ∷ 1 ∷ 1 ∷ 1 ∷ 1 ∷ 1 ∷ 1 ∷ 1 ∷ 1 ∷ 1 ∷ 1 ∷ 0 ∷ 0 ∷ 0 ∷ 0 ∷ [])
+    ∷ (1 ∷ 1 ∷ 1 ∷ 1 ∷ 1 ∷ 1 ∷ 1 ∷ 1 ∷ 1 ∷ 1 ∷ 1 ∷ 1 ∷ 1 ∷ 1 ∷ 0 ∷ 0 ∷ [])
     ∷ (1 ∷ 1 ∷ 0 ∷ 0 ∷ 0 ∷ 0 ∷ 0 ∷ 0 ∷ 1 ∷ 1 ∷ 1 ∷ 1 ∷ 0 ∷ 0 ∷ 0 ∷ 0 ∷ [])
     ∷ (1 ∷ 1 ∷ 0 ∷ 0 ∷ 1 ∷ 1 ∷ 1 ∷ 1 ∷ 0 ∷ 0 ∷ 0 ∷ 0 ∷ 0 ∷ 0 ∷ 0 ∷ 0 ∷ [])
     -- 4 attempt, 5 offer, 6 award

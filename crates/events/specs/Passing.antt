@@ -19,7 +19,7 @@ use Rattle.laws.specs.Parts.{all-take, all-drop, read-part}
 use Rattle.laws.specs.Alls.{all-anywhere}
 use Rattle.events.specs.declared.Event.{Event}
 use Rattle.events.specs.declared.Fields.{Fields}
-use Rattle.events.specs.Layout.{HEADER, BODY, COUNT-AT, WIDTH-AT, SUBJECT-AT, FIRST-AT, SECOND-AT, QUANTITY-AT, PRICE-AT, LAST-AT, marksOf}
+use Rattle.events.specs.Layout.{HEADER, BODY, COUNT-AT, WIDTH-AT, SUBJECT-AT, FIRST-AT, SECOND-AT, QUANTITY-AT, PRICE-AT, FIRST-KIND-AT, SECOND-KIND-AT, LAST-AT, marksOf}
 use Rattle.events.specs.Body.{kindOf, isKind, fieldsOf, body, masked, bodyOf, fieldsAt, eventRows, eventFrom, eventRead, spareSet, InWidth, Fits}
 use Rattle.events.specs.File.{count, size, kindsIn, bodiesIn, paired, eventsOf, reasons, checks, refusal, headerOf, fileOf}
 use Rattle.events.specs.Spare.{of-kind, masked-same}
@@ -49,7 +49,7 @@ module _ (b : List ℕ) (small : All (λ x. x < 256) b) where
       let s = word16-back SUBJECT-AT in
       let q = word32-back QUANTITY-AT in
       let p = word32-back PRICE-AT in
-      λ i. s i ++ getD b FIRST-AT 0 ∷ getD b SECOND-AT 0 ∷ q i ++ p i ++ replicate (BODY - LAST-AT) 0
+      λ i. s i ++ getD b FIRST-AT 0 ∷ getD b SECOND-AT 0 ∷ q i ++ p i ++ getD b FIRST-KIND-AT 0 ∷ getD b SECOND-KIND-AT 0 ∷ replicate (BODY - LAST-AT) 0
 
 -- ---- what holds of each kind, each by one computation over all rows of the tables
 
@@ -190,6 +190,8 @@ fields-fit b small =
       second = byte b small SECOND-AT;
       quantity = word32-small QUANTITY-AT;
       price = word32-small PRICE-AT;
+      firstkind = byte b small FIRST-KIND-AT;
+      secondkind = byte b small SECOND-KIND-AT;
     }
   where
     word16-small : (j : ℕ) → word16At b j < 65536

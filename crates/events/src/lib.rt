@@ -17,13 +17,16 @@ ghost use Rattle.events.specs.Masks.{bodyBytes, masksOf};
 ghost use Rattle.events.specs.File.{ReadsBack, answer, bodiesIn, checks, copyingRefusal, count, eventsOf, fileOf, kindsIn, numberOf, pageAfter, quantityOf, reasons, refusal, size, writingRefusal};
 use laws::EVENTS;
 
-// A member sells to another a quantity of a security.
+// A member sells to another a quantity of a security. The kind of each side is kept as it stands in the file: 0 own, 1
+// client, and any other byte, which the book refuses.
 pub struct Trade {
     pub seller: u8,
     pub buyer: u8,
     pub security: u16,
     pub quantity: u32,
     pub price: u32,
+    pub sellerkind: u8,
+    pub buyerkind: u8,
 }
 
 // The latest price of a security.
@@ -80,13 +83,15 @@ pub enum Event {
 }
 
 // The fields that a body has room for: the subject (a position, an award or a security), the seller or offerer, the
-// buyer, a quantity and a price.
+// buyer, a quantity, a price, and the kinds of a trade's seller and buyer.
 pub struct Fields {
     pub subject: u16,
     pub first: u8,
     pub second: u8,
     pub quantity: u32,
     pub price: u32,
+    pub firstkind: u8,
+    pub secondkind: u8,
 }
 
 // Two masks: which bytes of a body are to be zero, of the first eight and of the last eight.
@@ -133,7 +138,11 @@ const QUANTITY_AT: usize = 4;
 
 const PRICE_AT: usize = 8;
 
-const LAST_AT: usize = 12;
+const FIRST_KIND_AT: usize = 12;
+
+const SECOND_KIND_AT: usize = 13;
+
+const LAST_AT: usize = 14;
 
 // Where the two words of eight bytes begin that a body is tested by.
 const LOW_AT: usize = 0;
@@ -173,8 +182,16 @@ fn word64_at(bytes: &[u8], at: usize) -> u64
     words::word64(word32_at(bytes, at), word32_at(bytes, at + 4))
 }
 
-fn fields_with(subject: u16, first: u8, second: u8, quantity: u32, price: u32) -> Fields
-    ensures { λ r. ⌜ r ≡ fields subject first second quantity price ⌝ }
+fn fields_with(
+    subject: u16,
+    first: u8,
+    second: u8,
+    quantity: u32,
+    price: u32,
+    firstkind: u8,
+    secondkind: u8,
+) -> Fields
+    ensures { λ r. ⌜ r ≡ fields subject first second quantity price firstkind secondkind ⌝ }
     ensures { λ r. ⌜ InWidth r ⌝ }
 {
     Fields {
@@ -183,6 +200,8 @@ fn fields_with(subject: u16, first: u8, second: u8, quantity: u32, price: u32) -
         second,
         quantity,
         price,
+        firstkind,
+        secondkind,
     }
 }
 
@@ -196,7 +215,17 @@ fn fields_at(bytes: &[u8], at: usize) -> Fields
     let second = byte_at(bytes, at + SECOND_AT);
     let quantity = word32_at(bytes, at + QUANTITY_AT);
     let price = word32_at(bytes, at + PRICE_AT);
-    fields_with(subject, first, second, quantity, price)
+    let firstkind = byte_at(bytes, at + FIRST_KIND_AT);
+    let secondkind = byte_at(bytes, at + SECOND_KIND_AT);
+    fields_with(
+        subject,
+        first,
+        second,
+        quantity,
+        price,
+        firstkind,
+        secondkind,
+    )
 }
 
 // The event of a kind with these fields. A byte that is no kind gives a close; no file that passes has one.
@@ -211,6 +240,8 @@ fn event_from(kind: u8, f: Fields) -> Event
             security: subject,
             quantity: f.quantity,
             price: f.price,
+            sellerkind: f.firstkind,
+            buyerkind: f.secondkind,
         }),
         2 => Event::Price(Price {
             security: subject,
@@ -279,7 +310,7 @@ fn masks_of(kind: u8) -> Masks
 {
     match kind {
         // 1 trade, 2 price, 3 delivery
-        1 => Masks(0x0000_0000_0000_0000, 0xffff_ffff_0000_0000),
+        1 => Masks(0x0000_0000_0000_0000, 0xffff_0000_0000_0000),
         2 => Masks(0xffff_ffff_ffff_0000, 0xffff_ffff_0000_0000),
         3 => Masks(0x0000_0000_ffff_0000, 0xffff_ffff_ffff_ffff),
         // 4 attempt, 5 offer, 6 award
@@ -423,15 +454,23 @@ fn fields_of(event: Event) -> Fields
     ensures { λ _. ⌜ Fits event ⌝ }
 {
     match event {
-        Event::Trade(t) => fields_with(t.security, t.seller, t.buyer, t.quantity, t.price),
-        Event::Price(p) => fields_with(p.security, 0, 0, 0, p.price),
-        Event::Delivery(d) => fields_with(d.position, 0, 0, d.quantity, 0),
-        Event::Attempt(a) => fields_with(a.position, 0, 0, 0, 0),
-        Event::Offer(o) => fields_with(o.position, o.offerer, 0, o.quantity, o.price),
-        Event::Award(a) => fields_with(a.position, 0, 0, 0, 0),
-        Event::Confirm(c) => fields_with(c.award, 0, 0, 0, 0),
-        Event::Cash(c) => fields_with(c.position, 0, 0, 0, 0),
-        Event::Close => fields_with(0, 0, 0, 0, 0),
+        Event::Trade(t) => fields_with(
+            t.security,
+            t.seller,
+            t.buyer,
+            t.quantity,
+            t.price,
+            t.sellerkind,
+            t.buyerkind,
+        ),
+        Event::Price(p) => fields_with(p.security, 0, 0, 0, p.price, 0, 0),
+        Event::Delivery(d) => fields_with(d.position, 0, 0, d.quantity, 0, 0, 0),
+        Event::Attempt(a) => fields_with(a.position, 0, 0, 0, 0, 0, 0),
+        Event::Offer(o) => fields_with(o.position, o.offerer, 0, o.quantity, o.price, 0, 0),
+        Event::Award(a) => fields_with(a.position, 0, 0, 0, 0, 0, 0),
+        Event::Confirm(c) => fields_with(c.award, 0, 0, 0, 0, 0, 0),
+        Event::Cash(c) => fields_with(c.position, 0, 0, 0, 0, 0, 0),
+        Event::Close => fields_with(0, 0, 0, 0, 0, 0, 0),
     }
 }
 
@@ -453,7 +492,7 @@ fn put32(page: &mut [u8], at: usize, word: u32)
     page[at + 3] = (word / 16777216 % 256) as u8;
 }
 
-// A body, from a place on; the four last bytes hold no field.
+// A body, from a place on; the two last bytes hold no field.
 fn put_body(page: &mut [u8], at: usize, f: Fields)
     requires { ⌜ at + BODY ≤ length (now page) ⌝ }
     ensures { λ _. ⌜ now (page .exit) ≡ sets (now (page .entry)) at (body f) ⌝ }
@@ -463,7 +502,9 @@ fn put_body(page: &mut [u8], at: usize, f: Fields)
     page[at + SECOND_AT] = f.second;
     put32(page, at + QUANTITY_AT, f.quantity);
     put32(page, at + PRICE_AT, f.price);
-    put32(page, at + LAST_AT, 0);
+    page[at + FIRST_KIND_AT] = f.firstkind;
+    page[at + SECOND_KIND_AT] = f.secondkind;
+    put16(page, at + LAST_AT, 0);
 }
 
 // The kind bytes of the first events, after the count and the width.

@@ -194,6 +194,7 @@ claim opening {s} {cs} {rs} e few runs =
           rw (given, ← f .1, same, nth-at noPosition (formedBy opening (acceptedEvents (new opening) cs)) n (f .0 .above), nth-at noPosition (run (new opening) cs .positions) n (f .0 .above))
           (rw place at (sym (claim .netted (n - 1)) ∙ claim .tallied (n - 1) here));
       positions = rw same (claim .positions);
+      by-kind = rw same (claim .by-kind);
       latest-prices = rw same (read-latest (run (new opening) cs) opening (latestBy opening (acceptedEvents (new opening) cs)) (opened opening cs) few (claim .prices));
       fresh = every fresh sound runs;
       dealt = all-same piecesOn pieces (λ s c r k. called k .returned .pieces) (new opening) e runs;

@@ -7,24 +7,26 @@ use mathlib.Core.List.{List, [], _∷_, _++_, map}
 use mathlib.Core.Bool.{true, cond}
 use lib.ListN.{length, getD, take, drop}
 use lib.IntN.{pos, subℕ}
-use Rattle.laws.specs.Limits.{ACCOUNTS}
-use Rattle.laws.specs.Asked.{within}
+use Rattle.laws.specs.Limits.{ACCOUNTS, MEMBERS}
+use Rattle.laws.specs.Asked.{Within, within}
 use Rattle.laws.specs.Lists.{All, range, sum}
 use Rattle.laws.specs.Integers.{sumℤ}
 use Rattle.events.specs.declared.Cash.{Cash}
 use Rattle.events.specs.declared.Event.the-variants as event
 use Rattle.plain.specs.declared.Opening.{Opening}
+use Rattle.plain.specs.declared.Kind.{Kind}
 use Rattle.plain.specs.declared.Position.{Position}
 use Rattle.plain.specs.declared.Piece.{Piece}
 use Rattle.plain.specs.Book.{new, noPosition, nth, positionOf}
+use Rattle.plain.specs.Netting.{kindNumber}
 use Rattle.plain.specs.Dealing.{manners, takenBy, fresh}
 use Rattle.plain.specs.Charging.{creditOf, debitOf}
 use Rattle.plain.specs.Calls.{Call, isDischarge, shortOf}
 use Rattle.plain.specs.Refusals.{refusal}
-use Rattle.plain.specs.Histories.{eventOf, pieces, quantity, along, refusals, quantities, run, allCharges, acceptedEvents, formedBy, latestBy, balance}
+use Rattle.plain.specs.Histories.{eventOf, pieces, quantity, along, refusals, quantities, run, allCharges, acceptedEvents, formedBy, tradesOn, latestBy, balance}
 use Rattle.plain.specs.Invariants.{DueLong, NeedsPrice, GivenToday}
 use Rattle.plain.specs.Sound.{Small}
-use Rattle.plain.specs.Claim.{OnePrice}
+use Rattle.plain.specs.Claim.{OnePrice, NettedByKind}
 use Rattle.pieces.specs.Sheet.{piecesOf}
 use Rattle.kept.specs.View.{answer, numberOf, quantityOf}
 use Rattle.calls.specs.declared.PositionAnswer.the-variants.{Found}
@@ -93,8 +95,11 @@ pub record History (opening : Opening) (s : Stand) (cs : List Call) (rs : List R
   pub open-units : (n : ℕ) (p : Position) → positionAnswer (view (last s rs)) n ≡ Found p
       → nth noPosition (formedBy opening (acceptedEvents (new opening) cs)) n .netted
       ≡ sum (λ m. takenBy m n (sheets rs)) manners + p .unsettled
-  -- and all that makes a position comes from them alone: its member, security, side, delivery day and reference price
+  -- and all that makes a position comes from them alone: its member, kind, security, side, delivery day and reference price
   pub positions : map fresh (view (last s rs) .positions) ≡ formedBy opening (acceptedEvents (new opening) cs)
+  -- the netted quantity of each member's business of each kind in each security, by the trades of the day alone
+  pub by-kind : (member security d : ℕ) (kind : Kind) → Within 1 MEMBERS member → Within 1 (opening .register .count) security
+      → NettedByKind member (kindNumber kind) security d (tradesOn opening (acceptedEvents (new opening) cs) d) (view (last s rs) .positions)
   -- each security's latest price and the day on which it was given, as the public read reports them of any number, come from the accepted prices
   -- and closes of the list alone
   pub latest-prices : (security : ℕ) → priceAnswer (view (last s rs)) security

@@ -1,16 +1,20 @@
-// Document 01, 'Trades and netting': the positions that a day's trades make, put into the lent table of positions.
+// Document 01, 'Trades and netting', and document 02, Slip 5: the positions that a day's trades make, put into the lent table of positions.
 ghost use mathlib.Core.Path.{_≡_};
 ghost use mathlib.Core.List.{_∷_, []};
 ghost use Prim.Native.Nat.{_<_, _≤_, max};
 ghost use lib.ListN.{length, getD, set};
-ghost use Rattle.netting.specs.Gathering.{noTotal, noTotals, totalsOf, keyFor, partyOf, placeOf, added, raised, Addable, Raisable, Gatherable, Gathered};
-ghost use Rattle.netting.specs.Members.{netFrom, nettedBy, memberKeys, Unequal, MemberFits, Appended};
-ghost use Rattle.netting.specs.Netting.{DayFits, DayNetted};
+ghost use Rattle.laws.specs.Lists.{each, range, some};
+ghost use Rattle.laws.specs.Limits.{MEMBERS};
+ghost use Rattle.tables.specs.Tables.{today};
+ghost use Rattle.netting.specs.Gathering.{noTotal, noTotals, totalsOf, keyFor, partyOf, partyKindOf, placeOf, added, raised, Addable, Raisable, Gatherable, Gathered};
+ghost use Rattle.netting.specs.Members.{netFrom, kindPositions, ownPositions, bothPositions, Unequal, KindFits, MembersFit, Appended};
+ghost use Rattle.netting.specs.Netting.{isClient, DayFits, DayNetted};
 ghost use Rattle.tables.specs.Lent.{positionTable, tradeTable};
 use events::Trade;
 use laws::BusinessDay;
 use laws::MEMBERS;
 use laws::SECURITIES;
+use plain::Kind;
 use plain::Position;
 
 // The side of a trade that a member stands on.
@@ -25,7 +29,11 @@ struct Total {
     highest: u32,
 }
 
-// Four numbers for each of members 1 to 63 with securities 1 to 32: units sold, highest sale, units bought, highest purchase.
+// The kind byte of business that is a member's own.
+const OWN: u8 = 0;
+
+// Four numbers for each of members 1 to 63 with securities 1 to 32: units sold, highest sale, units bought, highest purchase. Each kind of
+// business has such a table, so that a day without client business is netted as if there was none.
 fn no_totals() -> [u32; 8064]
     ensures { λ r. ⌜ r ≡ noTotals ⌝ }
 {
@@ -55,7 +63,7 @@ fn put_total(totals: &mut [u32; 8064], place: usize, total: Total)
 // The place of a total: by member, then security, then side.
 fn place_of(side: Side, member: u8, security: u16) -> usize
     requires { ⌜ (1 ≤ member) × (1 ≤ security) ⌝ }
-    ensures { λ r. ⌜ r ≡ placeOf side (keyFor member security) ⌝ }
+    ensures { λ r. ⌜ r ≡ placeOf side member security ⌝ }
 {
     let key = SECURITIES * (member as usize - 1) + (security as usize - 1);
     match side {
@@ -70,6 +78,15 @@ fn party(side: Side, trade: Trade) -> u8
     match side {
         Side::Sale => trade.seller,
         Side::Purchase => trade.buyer,
+    }
+}
+
+fn party_kind(side: Side, trade: Trade) -> u8
+    ensures { λ r. ⌜ r ≡ partyKindOf side trade ⌝ }
+{
+    match side {
+        Side::Sale => trade.sellerkind,
+        Side::Purchase => trade.buyerkind,
     }
 }
 
@@ -89,40 +106,76 @@ fn with_trade(total: Total, trade: Trade) -> Total
     }
 }
 
-// One more trade in the total of its party on a side.
-fn raise(totals: &mut [u32; 8064], side: Side, trade: Trade)
-    requires { ⌜ Raisable (now totals) side trade ⌝ }
-    ensures { λ _. ⌜ (totalsOf (now (totals .exit)) ≡ raised side trade (totalsOf (now (totals .entry)))) × (length (now (totals .exit)) ≡ 8064) ⌝ }
+// One more trade in the total of its party on a side, where that side is business of the kind.
+fn raise(totals: &mut [u32; 8064], kind: Kind, side: Side, trade: Trade)
+    requires { ⌜ Raisable (now totals) kind side trade ⌝ }
+    ensures { λ _. ⌜ (totalsOf (now (totals .exit)) ≡ raised kind side trade (totalsOf (now (totals .entry)))) × (length (now (totals .exit)) ≡ 8064) ⌝ }
 {
+    if party_kind(side, trade) != rows::kind_number(kind) {
+        return;
+    }
     let place = place_of(side, party(side, trade), trade.security);
     let more = with_trade(total_at(totals, place), trade);
     put_total(totals, place, more);
 }
 
-// The totals of today's trades, in one pass over them.
-fn gather(totals: &mut [u32; 8064], trades: &[u32; 2560], netted: usize, count: usize)
+// The totals of today's business of a kind, in one pass over the trades.
+fn gather(totals: &mut [u32; 8064], kind: Kind, trades: &[u32; 3584], netted: usize, count: usize)
     requires { ⌜ (Gatherable (tradeTable (now trades) count netted)) × (now totals ≡ noTotals) ⌝ }
-    ensures { λ _. ⌜ Gathered (tradeTable (now (trades .entry)) count netted) (totalsOf (now (totals .exit))) ⌝ }
+    ensures { λ _. ⌜ Gathered kind (tradeTable (now (trades .entry)) count netted) (totalsOf (now (totals .exit))) ⌝ }
 {
     let mut i = netted;
     while i < count {
         let trade = rows::trade_at(trades, i);
-        raise(totals, Side::Sale, trade);
-        raise(totals, Side::Purchase, trade);
+        raise(totals, kind, Side::Sale, trade);
+        raise(totals, kind, Side::Purchase, trade);
         i += 1;
     }
 }
 
+// A side of the trade is client business.
+fn is_client(trade: Trade) -> bool
+    ensures { λ r. ⌜ r ≡ isClient trade ⌝ }
+{
+    if trade.sellerkind != OWN {
+        return true;
+    }
+    trade.buyerkind != OWN
+}
+
+// A side of one of today's trades is client business.
+fn has_client(trades: &[u32; 3584], netted: usize, count: usize) -> bool
+    requires { ⌜ Gatherable (tradeTable (now trades) count netted) ⌝ }
+    ensures { λ r. ⌜ r ≡ some isClient (today (tradeTable (now (trades .entry)) count netted)) ⌝ }
+{
+    let mut place = netted;
+    while place < count {
+        if is_client(rows::trade_at(trades, place)) {
+            return true;
+        }
+        place += 1;
+    }
+    false
+}
+
 // What is sold beyond what is bought is short, at the highest sale; else long, at the highest purchase.
-fn position_of(day: BusinessDay, member: u8, security: u16, bought: Total, sold: Total) -> Position
+fn position_of(
+    day: BusinessDay,
+    member: u8,
+    kind: Kind,
+    security: u16,
+    bought: Total,
+    sold: Total,
+) -> Position
     requires { ⌜ Unequal day bought sold ⌝ }
-    ensures { λ r. ⌜ netFrom (day .0) (keyFor member security) bought sold ≡ r ∷ [] ⌝ }
+    ensures { λ r. ⌜ netFrom (day .0) (keyFor member kind security) bought sold ≡ r ∷ [] ⌝ }
 {
     let settlement = BusinessDay(day.0 + 2);
     if bought.units < sold.units {
         let netted = sold.units - bought.units;
         return Position {
             member,
+            kind,
             security,
             short: true,
             settlement,
@@ -137,6 +190,7 @@ fn position_of(day: BusinessDay, member: u8, security: u16, bought: Total, sold:
     let netted = bought.units - sold.units;
     Position {
         member,
+        kind,
         security,
         short: false,
         settlement,
@@ -149,17 +203,18 @@ fn position_of(day: BusinessDay, member: u8, security: u16, bought: Total, sold:
     }
 }
 
-// How many positions the table holds with those of one member, by rising security.
-fn net_member(
-    rows: &mut [u32; 10240],
+// How many positions the table holds with those of one member's business of a kind, by rising security.
+fn net_kind(
+    rows: &mut [u32; 11264],
     totals: &[u32; 8064],
     day: BusinessDay,
     member: u8,
+    kind: Kind,
     securities: u16,
     held: usize,
 ) -> usize
-    requires { ⌜ (MemberFits (totalsOf (now totals)) day member securities held) × (length (now rows) ≡ 10240) ⌝ }
-    ensures { λ r. ⌜ (Appended (positionTable (now (rows .entry)) held) (nettedBy (day .0) (totalsOf (now (totals .entry))) (memberKeys securities member)) (positionTable (now (rows .exit)) r)) × (length (now (rows .exit)) ≡ 10240) ⌝ }
+    requires { ⌜ (KindFits (totalsOf (now totals)) day member kind securities held) × (length (now rows) ≡ 11264) ⌝ }
+    ensures { λ r. ⌜ (Appended (positionTable (now (rows .entry)) held) (kindPositions (day .0) (totalsOf (now (totals .entry))) securities member kind) (positionTable (now (rows .exit)) r)) × (length (now (rows .exit)) ≡ 11264) ⌝ }
 {
     let mut n = held;
     let mut security: u16 = 1;
@@ -167,7 +222,7 @@ fn net_member(
         let bought = total_at(totals, place_of(Side::Purchase, member, security));
         let sold = total_at(totals, place_of(Side::Sale, member, security));
         if bought.units != sold.units {
-            let position = position_of(day, member, security, bought, sold);
+            let position = position_of(day, member, kind, security, bought, sold);
             rows::put_row(rows, n, position);
             n += 1;
         }
@@ -176,42 +231,108 @@ fn net_member(
     n
 }
 
-// How many positions the table holds with those that the day's trades make.
-fn net_trades(
-    rows: &mut [u32; 10240],
-    held: usize,
-    trades: &[u32; 2560],
-    netted: usize,
-    count: usize,
+// How many positions the table holds with those of every member's own business.
+fn net_own(
+    rows: &mut [u32; 11264],
+    own: &[u32; 8064],
     day: BusinessDay,
     securities: u16,
+    held: usize,
 ) -> usize
-    requires { ⌜ (DayFits (positionTable (now rows) held) (tradeTable (now trades) count netted) day securities) × (length (now rows) ≡ 10240) ⌝ }
-    ensures { λ r. ⌜ (DayNetted (positionTable (now (rows .entry)) held) (tradeTable (now (trades .entry)) count netted) day securities (positionTable (now (rows .exit)) r)) × (length (now (rows .exit)) ≡ 10240) ⌝ }
+    requires { ⌜ (MembersFit (ownPositions (day .0) (totalsOf (now own)) securities) day securities held) × (length (now rows) ≡ 11264) ⌝ }
+    ensures { λ r. ⌜ (Appended (positionTable (now (rows .entry)) held) (each (ownPositions (day .0) (totalsOf (now (own .entry))) securities) (range 1 MEMBERS)) (positionTable (now (rows .exit)) r)) × (length (now (rows .exit)) ≡ 11264) ⌝ }
 {
-    let mut totals = no_totals();
-    gather(&mut totals, trades, netted, count);
     let mut n = held;
     let mut member: u8 = 1;
     while member <= MEMBERS {
-        n = net_member(rows, &totals, day, member, securities, n);
+        n = net_kind(rows, own, day, member, Kind::Own, securities, n);
         member += 1;
     }
     n
 }
 
-// How many positions the table holds with those of the day. A day without trades makes none.
-pub fn net_day(
-    rows: &mut [u32; 10240],
+// How many positions the table holds with those of every member's business, its own before its clients'.
+fn net_both(
+    rows: &mut [u32; 11264],
+    own: &[u32; 8064],
+    client: &[u32; 8064],
+    day: BusinessDay,
+    securities: u16,
     held: usize,
-    trades: &[u32; 2560],
+) -> usize
+    requires { ⌜ (MembersFit (bothPositions (day .0) (totalsOf (now own)) (totalsOf (now client)) securities) day securities held) × (length (now rows) ≡ 11264) ⌝ }
+    ensures { λ r. ⌜ (Appended (positionTable (now (rows .entry)) held) (each (bothPositions (day .0) (totalsOf (now (own .entry))) (totalsOf (now (client .entry))) securities) (range 1 MEMBERS)) (positionTable (now (rows .exit)) r)) × (length (now (rows .exit)) ≡ 11264) ⌝ }
+{
+    let mut n = held;
+    let mut member: u8 = 1;
+    while member <= MEMBERS {
+        let with_own = net_kind(rows, own, day, member, Kind::Own, securities, n);
+        n = net_kind(
+            rows,
+            client,
+            day,
+            member,
+            Kind::Client,
+            securities,
+            with_own,
+        );
+        member += 1;
+    }
+    n
+}
+
+// How many positions the table holds with those of a day that has client business.
+fn net_clients(
+    rows: &mut [u32; 11264],
+    own: &[u32; 8064],
+    held: usize,
+    trades: &[u32; 3584],
     netted: usize,
     count: usize,
     day: BusinessDay,
     securities: u16,
 ) -> usize
-    requires { ⌜ (DayFits (positionTable (now rows) held) (tradeTable (now trades) count netted) day securities) × (length (now rows) ≡ 10240) ⌝ }
-    ensures { λ r. ⌜ (DayNetted (positionTable (now (rows .entry)) held) (tradeTable (now (trades .entry)) count netted) day securities (positionTable (now (rows .exit)) r)) × (length (now (rows .exit)) ≡ 10240) ⌝ }
+    requires { ⌜ (DayFits (positionTable (now rows) held) (tradeTable (now trades) count netted) day securities) × (Gathered Kind.Own (tradeTable (now trades) count netted) (totalsOf (now own))) × (length (now rows) ≡ 11264) ⌝ }
+    ensures { λ r. ⌜ (DayNetted (positionTable (now (rows .entry)) held) (tradeTable (now (trades .entry)) count netted) day securities (positionTable (now (rows .exit)) r)) × (length (now (rows .exit)) ≡ 11264) ⌝ }
+{
+    let mut client = no_totals();
+    gather(&mut client, Kind::Client, trades, netted, count);
+    net_both(rows, own, &client, day, securities, held)
+}
+
+// How many positions the table holds with those that the day's trades make.
+fn net_trades(
+    rows: &mut [u32; 11264],
+    held: usize,
+    trades: &[u32; 3584],
+    netted: usize,
+    count: usize,
+    day: BusinessDay,
+    securities: u16,
+) -> usize
+    requires { ⌜ (DayFits (positionTable (now rows) held) (tradeTable (now trades) count netted) day securities) × (length (now rows) ≡ 11264) ⌝ }
+    ensures { λ r. ⌜ (DayNetted (positionTable (now (rows .entry)) held) (tradeTable (now (trades .entry)) count netted) day securities (positionTable (now (rows .exit)) r)) × (length (now (rows .exit)) ≡ 11264) ⌝ }
+{
+    let mut own = no_totals();
+    gather(&mut own, Kind::Own, trades, netted, count);
+    if has_client(trades, netted, count) {
+        return net_clients(rows, &own, held, trades, netted, count, day, securities);
+    }
+    net_own(rows, &own, day, securities, held)
+}
+
+// How many positions the table holds with those of the day. A day without trades makes none.
+pub fn net_day(
+    rows: &mut [u32; 11264],
+    held: usize,
+    trades: &[u32; 3584],
+    netted: usize,
+    count: usize,
+    day: BusinessDay,
+    securities: u16,
+) -> usize
+    requires { ⌜ (DayFits (positionTable (now rows) held) (tradeTable (now trades) count netted) day securities) × (length (now rows) ≡ 11264) ⌝ }
+    ensures { λ r. ⌜ (DayNetted (positionTable (now (rows .entry)) held) (tradeTable (now (trades .entry)) count netted) day securities (positionTable (now (rows .exit)) r)) × (length (now (rows .exit)) ≡ 11264) ⌝ }
 {
     if netted == count {
         return held;

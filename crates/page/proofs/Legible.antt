@@ -54,7 +54,7 @@ small-fits isins n p s =
     let cash = figure-fits (p .cash) (omega arith) in
     let unsettled = figure-fits (p .unsettled) (omega arith) in
     let settlement = digits-most 4 (p .settlement .0) (omega (arith, s .settlement)) in
-    (number, (member, (isin, (omega arith, (netted, (delivered, (bought, (cash, (unsettled, (settlement, tt))))))))))
+    (number, (member, (isin, (omega arith, (netted, (delivered, (bought, (cash, (unsettled, (settlement, (omega arith, tt)))))))))))
 
 -- the columns follow each other in any line
 pub in-order : (isins : List ℕ) (n : ℕ) (p : Position) → inOrder 1 (columns isins n p) ≡ true
@@ -79,6 +79,7 @@ legible isins n p h twelve =
       cash = figure-read cs 7 (p .cash) l (omega arith) refl;
       unsettled = figure-read cs 8 (p .unsettled) l (omega arith) refl;
       settlement = figure-read cs 9 (p .settlement .0) l (omega arith) refl;
+      kind = line-read cs 10 l (omega arith);
     }
 
 small-legible : (isins : List ℕ) (n : ℕ) (p : Position) → Small isins n p → Legible isins n p

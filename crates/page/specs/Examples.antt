@@ -12,14 +12,14 @@ use Rattle.plain.specs.Worked.{xx, oneShare, squeeze}
 use Rattle.page.specs.Columns.{blanks}
 use Rattle.page.specs.Page.{pageText, computing}
 
--- a line by its texts and the blanks before each; it ends with columns 79 and 80 and a line feed
+-- a line by its texts and the blanks before each; it ends with column 79, the letter O of own business and a line feed
 abbrev shown : List ℕ → List ℕ → ℕ → List (List ℕ) → List ℕ
 shown number member side figures =
     each (λ text. text)
     ((blanks 3 ++ number) ∷ (blanks 2 ++ member) ∷ (blanks 1 ++ xx 50) ∷ (32 ∷ side ∷ []) ∷ figures)
-    ++ (32 ∷ 32 ∷ 10 ∷ [])
+    ++ (32 ∷ 79 ∷ 10 ∷ [])
 
--- the line `   1  1 XX0000000002 D       150        30        30        90         0     3  `, and those of the two longs
+-- the line `   1  1 XX0000000002 D       150        30        30        90         0     3 O`, and those of the two longs
 page : pageText (histories.run oneShare squeeze)
     ≡ shown (49 ∷ []) (49 ∷ []) 68 (
     (blanks 7 ++ (49 ∷ 53 ∷ 48 ∷ []))

@@ -12,7 +12,7 @@ use Rattle.plain.specs.Calls.{Call}
 use Rattle.plain.specs.Histories.{run}
 use Rattle.report.specs.Lines.{side}
 use Rattle.page.specs.Columns.{LINE, Fits, placesOf, figureIn}
-use Rattle.page.specs.Page.{isinOf, columns, pageLine, pageText}
+use Rattle.page.specs.Page.{isinOf, kindLetter, columns, pageLine, pageText}
 use Rattle.page.specs.Answer.{endOf, pageRefusal, pageAnswer}
 
 -- the line of position number n
@@ -31,6 +31,7 @@ pub record Legible (isins : List ℕ) (n : ℕ) (p : Position) : Type 0 where
   pub cash : figureIn 54 62 (pageLine isins n p) ≡ p .cash
   pub unsettled : figureIn 64 72 (pageLine isins n p) ≡ p .unsettled
   pub settlement : figureIn 74 78 (pageLine isins n p) ≡ p .settlement .0
+  pub kind : placesOf 80 80 (pageLine isins n p) ≡ kindLetter (p .kind) ∷ []
 
 -- the page of a book
 pub record LegiblePage (b : Book) : Type 0 where

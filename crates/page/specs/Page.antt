@@ -1,4 +1,4 @@
--- Document 02, Slip 1, 'The desk's page': the text of a book's positions.
+-- Document 02, Slip 1, 'The desk's page', and Slip 5: the text of a book's positions.
 use Prim.Native.Nat.{ℕ, _+_, _-_, _*_, _≤_, _<_}
 use mathlib.Core.Path.{_≡_}
 use mathlib.Core.List.{List, [], _∷_}
@@ -6,6 +6,8 @@ use lib.ListN.{length, getD, take, drop}
 use Rattle.laws.specs.Limits.{POSITIONS, SECURITIES}
 use Rattle.laws.specs.Lists.{range, each}
 use Rattle.laws.specs.Asked.{Within}
+use Rattle.plain.specs.declared.Kind.{Kind}
+use Rattle.plain.specs.declared.Kind.the-variants.{Own, Client}
 use Rattle.plain.specs.declared.Position.{Position}
 use Rattle.plain.specs.Book.{Book, nth, noPosition}
 use Rattle.rows.specs.Rows.{rowsOf}
@@ -16,6 +18,11 @@ use Rattle.page.specs.Columns.{Column, column, columnsFrom, line, Fits}
 -- the 12 bytes of a security's ISIN, as the register keeps them; securities are numbered from 1
 abbrev pub isinOf : List ℕ → ℕ → List ℕ
 isinOf isins security = take 12 (drop (12 * (security - 1)) isins)
+
+-- "the page shows O or C in column 80" (Slip 5): O is 79, C is 67
+abbrev pub kindLetter : Kind → ℕ
+kindLetter Own = 79
+kindLetter Client = 67
 
 -- "position 1-4, member 6-7, ISIN 9-20, side letter 22, netted 24-32, delivered 34-42, bought in 44-52, cash 54-62, open 64-72, S 74-78"
 unfoldable pub columns : List ℕ → ℕ → Position → List Column
@@ -30,6 +37,7 @@ columns isins number p =
     ∷ column 54 62 (digits (p .cash))
     ∷ column 64 72 (digits (p .unsettled))
     ∷ column 74 78 (digits (p .settlement .0))
+    ∷ column 80 80 (kindLetter (p .kind) ∷ [])
     ∷ []
 
 -- the line of a position

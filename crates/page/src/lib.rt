@@ -1,5 +1,5 @@
 // The desk's page: the positions at the end of a file, a line of 80 columns and a line feed each, in the first bytes of a page that the caller
-// lends. Document 02, Slip 1.
+// lends. Document 02, Slips 1 and 5.
 ghost use mathlib.Core.Path.{_≡_};
 ghost use mathlib.Core.List.{List, [], _++_};
 ghost use Prim.Native.Nat.{ℕ, _+_, _-_, _*_, _≤_};
@@ -16,9 +16,10 @@ ghost use Rattle.replay.specs.Replay.{NewlyHeld, OpensAs};
 ghost use Rattle.calls.specs.View.{numbers, bookOf, Held};
 ghost use Rattle.report.specs.Digits.{digits};
 ghost use Rattle.page.specs.Columns.{LINE, Fits, line};
-ghost use Rattle.page.specs.Page.{columns, isinOf, pageLine, pageLines, Showable};
+ghost use Rattle.page.specs.Page.{columns, isinOf, kindLetter, pageLine, pageLines, Showable};
 ghost use Rattle.page.specs.Answer.{pageAnswer, pageAfter, Shown};
 use calls::Core;
+use plain::Kind;
 use plain::Position;
 
 const COLUMNS: usize = 80;
@@ -68,7 +69,17 @@ fn put_isin(page: &mut [u8], isins: &[u8; 384], security: u16)
     }
 }
 
-// The line of a position, column by column. The side letter stands in place 22.
+// O for own business, C for clients'.
+fn kind_letter(kind: Kind) -> u8
+    ensures { λ r. ⌜ r ≡ kindLetter kind ⌝ }
+{
+    match kind {
+        Kind::Own => b'O',
+        Kind::Client => b'C',
+    }
+}
+
+// The line of a position, column by column. The side letter stands in place 22, that of the kind in place 80.
 fn put_position(page: &mut [u8], isins: &[u8; 384], number: u16, position: Position)
     requires { ⌜ (LINE ≤ length (now page)) × (length (now isins) ≡ 384) × (Within 1 SECURITIES (position .security)) × (Fits (columns (now isins) number position)) ⌝ }
     ensures { λ _. ⌜ now (page .exit) ≡ pageLine (now (isins .entry)) number position ++ drop LINE (now (page .entry)) ⌝ }
@@ -84,10 +95,12 @@ fn put_position(page: &mut [u8], isins: &[u8; 384], number: u16, position: Posit
     put_figure(page, 54, 62, position.cash as u64);
     put_figure(page, 64, 72, position.unsettled as u64);
     put_figure(page, 74, 78, position.settlement.0 as u64);
+    let kind = position.kind;
+    page[79] = kind_letter(kind);
 }
 
 // The lines of the first `count` positions, by rising number from 1.
-fn put_positions(page: &mut [u8], isins: &[u8; 384], rows: &[u32; 10240], count: usize)
+fn put_positions(page: &mut [u8], isins: &[u8; 384], rows: &[u32; 11264], count: usize)
     requires { ⌜ (LINE * count ≤ length (now page)) × (Showable (now isins) (now rows) count) ⌝ }
     ensures { λ _. ⌜ now (page .exit) ≡ pageLines (now (isins .entry)) (positions (positionTable (now (rows .entry)) count)) ++ drop (LINE * count) (now (page .entry)) ⌝ }
 {
@@ -100,7 +113,7 @@ fn put_positions(page: &mut [u8], isins: &[u8; 384], rows: &[u32; 10240], count:
 }
 
 // The page of a book: the bytes written, or refusal 31, before anything is written.
-fn show_positions(page: &mut [u8], core: Core, rows: &[u32; 10240]) -> u64
+fn show_positions(page: &mut [u8], core: Core, rows: &[u32; 11264]) -> u64
     requires { ⌜ ((trades awards counts : List ℕ) × Held core (numbers (now rows) trades awards counts)) ⌝ }
     ensures { λ r. ⌜ ((trades awards counts : List ℕ) → Shown (bookOf core (numbers (now (rows .entry)) trades awards counts)) (now (page .entry)) (now (page .exit)) r) ⌝ }
 {

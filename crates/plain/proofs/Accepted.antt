@@ -26,7 +26,7 @@ use Rattle.plain.specs.Book.{Book, positionOf, awardOf, latestPrice}
 use Rattle.plain.specs.Dealing.{due}
 use Rattle.plain.specs.Auction.{failing, unconfirmed}
 use Rattle.plain.specs.Calls.{Call, call, done}
-use Rattle.plain.specs.Refusals.{isNever, isGivenBefore, stepToday, free, runsOn, reasons, refusal}
+use Rattle.plain.specs.Refusals.{isOneParty, hasKinds, isNever, isGivenBefore, stepToday, free, runsOn, reasons, refusal}
 use Rattle.plain.specs.Histories.{eventOf, next, run}
 
 -- what 19 and 32 leave: a price was given, and not before today
@@ -41,7 +41,8 @@ module _ (b : Book) where
     pub security : Within 1 (b .opening .register .count) (t .security)
     pub quantity : Within 1 MOST-QUANTITY (t .quantity)
     pub price : Within 1 MOST-PRICE (t .price)
-    pub others : t .seller ≢ t .buyer
+    pub others : isOneParty t ≡ false
+    pub kinds : hasKinds t ≡ true
     pub room : b .past + length (b .trades) < TRADES
 
   pub record PriceTaken (p : Price) : Type 0 where
@@ -109,7 +110,8 @@ module _ (b : Book) where
         security = both-bounds 1 (b .opening .register .count) (t .security) (not-false _ (search));
         quantity = both-bounds 1 MOST-QUANTITY (t .quantity) (not-false _ (search));
         price = both-bounds 1 MOST-PRICE (t .price) (not-false _ (search));
-        others = eqb-false _ _ (search);
+        others = search;
+        kinds = not-false _ (search);
         room = leb-false _ _ (search);
       }
 

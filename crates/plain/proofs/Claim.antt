@@ -6,6 +6,7 @@ use Rattle.plain.specs.Book.{Book, new}
 use Rattle.plain.specs.Calls.{Call}
 use Rattle.plain.specs.Histories.{run}
 use Rattle.plain.proofs.Formed.{formed-new, formed-netted}
+use Rattle.plain.proofs.ByKind.{by-kind-new}
 use Rattle.plain.proofs.Prices.{last-new, given-today}
 use Rattle.plain.proofs.Standing.{standing-few}
 use Rattle.plain.specs.Sound.{Sound}
@@ -38,6 +39,7 @@ claim opening cs =
     record {
       netted = formed-netted opening cs;
       positions = formed-new opening cs;
+      by-kind = λ member security d kind h k. by-kind-new opening cs member security d kind h k;
       tallied = tally opening cs;
       prices = λ s known. last-new s known opening cs (n .standing .prices);
       accounts' = accounts opening cs;

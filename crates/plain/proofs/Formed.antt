@@ -35,6 +35,7 @@ unfolding fresh
 fresh-new day p h = λ i.
     record {
       member = p .member;
+      kind = p .kind;
       security = p .security;
       short = p .short;
       settlement = p .settlement;

@@ -4,6 +4,7 @@ use native.Mathlib.Omega.{arith}
 use mathlib.Core.Path.{_≡_, refl, _∙_}
 use mathlib.Core.List.{List, [], _∷_, _++_}
 use lib.ListN.{length, set, length-append, length-set}
+use borrow.Author.Tests.{leb-true}
 use Rattle.laws.specs.Limits.{MOST-PRICE}
 use Rattle.laws.specs.Lists.{All}
 use Rattle.laws.specs.Alls.{all-append, all-of, all-number, all-set}
@@ -19,9 +20,9 @@ use Rattle.plain.specs.Changing.{withDay, withPast, withTrades, withPric
 use Rattle.plain.specs.Netting.{keys, netted}
 use Rattle.plain.specs.Dealing.{lowered, lowering}
 use Rattle.plain.specs.Calls.{Call, call, discharged, handsOut, done}
-use Rattle.plain.specs.Refusals.{refusal}
+use Rattle.plain.specs.Refusals.{ownOrClient, refusal}
 use Rattle.plain.specs.Histories.{eventOf, run}
-use Rattle.laws.specs.Asked.{Within}
+use Rattle.laws.specs.Asked.{Within, and-left, and-right}
 use Rattle.plain.proofs.Accepted.{run-keeps, TradeTaken, PriceTaken, CloseTaken, trade-taken, price-taken, close-taken}
 use Rattle.plain.specs.Invariants.{TradeFits, Fair}
 use Rattle.plain.proofs.Discharged.{length-lowering}
@@ -95,7 +96,15 @@ done-day b c e h =
 
 trade-fits : (b : Book) (t : Trade) → TradeTaken b t → TradeFits (b .opening .register .count) t
 trade-fits b t k =
-    record { seller = k .seller; buyer = k .buyer; security = k .security; quantity = k .quantity; price = k .price }
+    record {
+      seller = k .seller;
+      buyer = k .buyer;
+      security = k .security;
+      quantity = k .quantity;
+      price = k .price;
+      sellerkind = leb-true _ _ (and-left (ownOrClient (t .sellerkind)) (ownOrClient (t .buyerkind)) (k .kinds));
+      buyerkind = leb-true _ _ (and-right (ownOrClient (t .sellerkind)) (ownOrClient (t .buyerkind)) (k .kinds));
+    }
 
 pub done-trades : (b : Book) (c : Call) → refusal b c ≡ 0 → All (TradeFits (b .opening .register .count)) (b .trades) → All (TradeFits (done b (eventOf c) .opening .register .count)) (done b (eventOf c) .trades)
 done-trades b c e h =

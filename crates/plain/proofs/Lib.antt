@@ -11,6 +11,7 @@ pub mod Kept
 pub mod Prices
 pub mod Order
 pub mod Formed
+pub mod ByKind
 pub mod Standing
 pub mod Sound
 pub mod Tally

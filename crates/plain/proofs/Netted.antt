@@ -1,4 +1,4 @@
--- Document 01, 'Trades and netting': what holds of the positions that a day's trades make.
+-- Document 01, 'Trades and netting', and document 02, Slip 5: what holds of the positions that a day's trades make.
 use Prim.Native.Nat.{ℕ, suc, _+_, _-_, _*_, _≤_, _<_, max}
 use native.Mathlib.Nat.{add-zero}
 use native.Mathlib.Omega.{arith}
@@ -15,71 +15,114 @@ use Rattle.laws.specs.Sums.{only-sum, sum-length}
 use Rattle.laws.specs.Alls.{all-any, all-keep, all-each, all-map, all-of, all-range}
 use Rattle.laws.specs.Highest.{highest-most}
 use Rattle.events.specs.declared.Trade.{Trade}
+use Rattle.plain.specs.declared.Kind.{Kind}
+use Rattle.plain.specs.declared.Kind.the-variants.{Client}
 use Rattle.plain.specs.declared.Position.{Position}
-use Rattle.plain.specs.Netting.{Key, keys, buys, sells, units, highestPrice, made, net, netted, netOf}
+use Rattle.plain.specs.Netting.{kindNumber, kinds, Key, kindKeys, memberKeys, keys, soldIn, boughtIn, buys, sells, units, highestPrice, made, net, netted, netOf}
 use Rattle.plain.specs.Dealing.{longOf}
 use Rattle.plain.specs.Invariants.{TradeFits, Fair, Whole, nettedOf, shortOn, longOn, KeyFits}
 
 -- KEYS
 
--- the key of a member and a security
-abbrev pub isKey : ℕ → ℕ → Key → Bool
-isKey member security k = eqb member (k .member) && eqb security (k .security)
+-- the key of a member, the number of a kind and a security
+abbrev pub isKey : ℕ → ℕ → ℕ → Key → Bool
+isKey member kind security k = eqb member (k .member) && eqb kind (kindNumber (k .kind)) && eqb security (k .security)
 
 -- each key occurs at most once in a list: what counts c at each occurrence counts at most c
 abbrev pub Once : List Key → Type 0
-Once ks = (member security c : ℕ) → sum (λ k. only (isKey member security k) c) ks ≤ c
+Once ks = (member kind security c : ℕ) → sum (λ k. only (isKey member kind security k) c) ks ≤ c
 
--- each key of a member and a registered security occurs just once
+-- each key of a member, a kind and a registered security occurs just once
 abbrev pub Complete : ℕ → List Key → Type 0
 Complete count ks =
-    (member security c : ℕ) → Within 1 63 member → Within 1 count security → sum (λ k. only (isKey member security k) c) ks ≡ c
+    (member kind security c : ℕ) → Within 1 63 member → kind ≤ kindNumber Client → Within 1 count security → sum (λ k. only (isKey member kind security k) c) ks ≡ c
 
-abbrev key : ℕ → ℕ → Key
-key m s = record { member = m; security = s }
+abbrev key : ℕ → Kind → ℕ → Key
+key m n s = record { member = m; kind = n; security = s }
 
--- over any members and securities, so that no range is written out
-abbrev keysOf : List ℕ → List ℕ → List Key
-keysOf ms ss = each (λ m. each (λ s. key m s ∷ []) ss) ms
+-- over any members, kinds and securities, so that no range is written out
+abbrev keysOf : List ℕ → List Kind → List ℕ → List Key
+keysOf ms ns ss = each (λ m. each (λ n. each (λ s. key m n s ∷ []) ss) ns) ms
 
-sum-keys : (f : Key → ℕ) (ms ss : List ℕ) → sum f (keysOf ms ss) ≡ sum (λ m. sum (λ s. f (key m s)) ss) ms
-sum-keys f ms ss =
-    sum-each f (λ m. each (λ s. key m s ∷ []) ss) ms
-    ∙ sum-same (λ m. sum f (each (λ s. key m s ∷ []) ss)) (λ m. sum (λ s. f (key m s)) ss) ms
-    (λ m. sum-each f (λ s. key m s ∷ []) ss ∙ sum-same (λ s. f (key m s) + 0) (λ s. f (key m s)) ss (λ s. add-zero (f (key m s))))
+sum-single : {A B : Type 0} (f : B → ℕ) (g : A → B) (xs : List A) → sum f (each (λ x. g x ∷ []) xs) ≡ sum (λ x. f (g x)) xs
+sum-single f g xs = sum-each f (λ x. g x ∷ []) xs ∙ sum-same (λ x. f (g x) + 0) (λ x. f (g x)) xs (λ x. add-zero (f (g x)))
 
-sum-securities : (b : Bool) (security c : ℕ) (ss : List ℕ) → sum (λ s. only (b && eqb security s) c) ss ≡ only b (sum (λ s. only (eqb security s) c) ss)
-sum-securities true security c ss = refl
-sum-securities false security c ss = sum-zero ss
+sum-keys : (f : Key → ℕ) (ms : List ℕ) (ns : List Kind) (ss : List ℕ) → sum f (keysOf ms ns ss) ≡ sum (λ m. sum (λ n. sum (λ s. f (key m n s)) ss) ns) ms
+sum-keys f ms ns ss =
+    sum-each f (λ m. each (λ n. each (λ s. key m n s ∷ []) ss) ns) ms
+    ∙ sum-same (λ m. sum f (each (λ n. each (λ s. key m n s ∷ []) ss) ns)) (λ m. sum (λ n. sum (λ s. f (key m n s)) ss) ns) ms
+    (λ m. sum-each f (λ n. each (λ s. key m n s ∷ []) ss) ns
+    ∙ sum-same (λ n. sum f (each (λ s. key m n s ∷ []) ss)) (λ n. sum (λ s. f (key m n s)) ss) ns (λ n. sum-single f (key m n) ss))
 
-sum-key : (member security c : ℕ) (ms ss : List ℕ) → sum (λ k. only (isKey member security k) c) (keysOf ms ss) ≡ sum (λ m. only (eqb member m) (sum (λ s. only (eqb security s) c) ss)) ms
-sum-key member security c ms ss =
-    sum-keys (λ k. only (isKey member security k) c) ms ss
-    ∙ sum-same (λ m. sum (λ s. only (eqb member m && eqb security s) c) ss) (λ m. only (eqb member m) (sum (λ s. only (eqb security s) c) ss)) ms
-    (λ m. sum-securities (eqb member m) security c ss)
+pub only-both : (a b : Bool) (n : ℕ) → only (a && b) n ≡ only a (only b n)
+only-both true b n = refl
+only-both false b n = refl
 
-ranges-once : (members count : ℕ) → Once (keysOf (range 1 members) (range 1 count))
-ranges-once members count member security c =
+-- a test that does not look at the element counts all of them or none
+sum-both : {A : Type 0} (b : Bool) (test : A → Bool) (c : ℕ) (xs : List A) → sum (λ x. only (b && test x) c) xs ≡ only b (sum (λ x. only (test x) c) xs)
+sum-both true test c xs = refl
+sum-both false test c xs = sum-zero xs
+
+-- what counts c at each occurrence of a key counts it for each member, kind and security that is its own
+module _ (member kind security c : ℕ) (ms : List ℕ) (ns : List Kind) (ss : List ℕ) where
+  abbrev ofSecurities : ℕ
+  ofSecurities = sum (λ s. only (eqb security s) c) ss
+
+  abbrev ofKinds : ℕ
+  ofKinds = sum (λ n. only (eqb kind (kindNumber n)) ofSecurities) ns
+
+  kind-sum : (m : ℕ) → sum (λ n. sum (λ s. only (isKey member kind security (key m n s)) c) ss) ns ≡ only (eqb member m) ofKinds
+  kind-sum m =
+      sum-same (λ n. sum (λ s. only (isKey member kind security (key m n s)) c) ss) (λ n. only (eqb member m) (only (eqb kind (kindNumber n)) ofSecurities)) ns
+      (λ n. sum-both (eqb member m && eqb kind (kindNumber n)) (eqb security) c ss ∙ only-both (eqb member m) (eqb kind (kindNumber n)) ofSecurities)
+      ∙ sym (only-sum (eqb member m) (λ n. only (eqb kind (kindNumber n)) ofSecurities) ns)
+
+  sum-key : sum (λ k. only (isKey member kind security k) c) (keysOf ms ns ss) ≡ sum (λ m. only (eqb member m) ofKinds) ms
+  sum-key =
+      sum-keys (λ k. only (isKey member kind security k) c) ms ns ss
+      ∙ sum-same (λ m. sum (λ n. sum (λ s. only (isKey member kind security (key m n s)) c) ss) ns) (λ m. only (eqb member m) ofKinds) ms kind-sum
+
+-- the two kinds have the numbers 0 and 1
+kinds-once : (kind c : ℕ) → sum (λ n. only (eqb kind (kindNumber n)) c) kinds ≤ c
+kinds-once kind c = omega (arith, sum-once kind c 0 2)
+
+kinds-one : (kind c : ℕ) → kind ≤ kindNumber Client → sum (λ n. only (eqb kind (kindNumber n)) c) kinds ≡ c
+kinds-one kind c h = omega (arith, sum-one kind c 0 2 (omega arith) (omega arith))
+
+ranges-once : (members count : ℕ) → Once (keysOf (range 1 members) kinds (range 1 count))
+ranges-once members count member kind security c =
+    let these : ℕ = ofSecurities member kind security c (range 1 members) kinds (range 1 count) in
     omega (
       arith,
-      sum-key member security c (range 1 members) (range 1 count),
-      sum-once member (sum (λ s. only (eqb security s) c) (range 1 count)) 1 members,
+      sum-key member kind security c (range 1 members) kinds (range 1 count),
+      sum-once member (sum (λ n. only (eqb kind (kindNumber n)) these) kinds) 1 members,
+      kinds-once kind these,
       sum-once security c 1 count,
     )
 
-ranges-complete : (members count member security c : ℕ) → Within 1 members member → Within 1 count security → sum (λ k. only (isKey member security k) c) (keysOf (range 1 members) (range 1 count)) ≡ c
-ranges-complete members count member security c h k =
-    sum-key member security c (range 1 members) (range 1 count)
-    ∙ sum-one member (sum (λ s. only (eqb security s) c) (range 1 count)) 1 members (h .above) (omega arith)
+ranges-complete : (members count member kind security c : ℕ) → Within 1 members member → kind ≤ kindNumber Client → Within 1 count security
+    → sum (λ k. only (isKey member kind security k) c) (keysOf (range 1 members) kinds (range 1 count)) ≡ c
+ranges-complete members count member kind security c h n k =
+    let these : ℕ = ofSecurities member kind security c (range 1 members) kinds (range 1 count) in
+    sum-key member kind security c (range 1 members) kinds (range 1 count)
+    ∙ sum-one member (sum (λ n. only (eqb kind (kindNumber n)) these) kinds) 1 members (h .above) (omega arith)
+    ∙ kinds-one kind these n
     ∙ sum-one security c 1 count (k .above) (omega arith)
 
-ranges-fit : (members count : ℕ) → members ≤ 63 → All (KeyFits count) (keysOf (range 1 members) (range 1 count))
+-- a kind's keys are of a member and a registered security
+pub kind-fits : (count member : ℕ) (kind : Kind) → Within 1 63 member → All (KeyFits count) (kindKeys count member kind)
+kind-fits count member kind h =
+    all-each (KeyFits count) (λ s. key member kind s ∷ []) (λ s. (1 ≤ s) × (s < 1 + count)) (range 1 count)
+    (λ s hs. (record { member = h; security = record { above = hs .0; below = omega (arith, hs .1) } }, tt))
+    (all-range 1 count)
+
+ranges-fit : (members count : ℕ) → members ≤ 63 → All (KeyFits count) (keysOf (range 1 members) kinds (range 1 count))
 ranges-fit members count l =
-    all-each (KeyFits count) (λ m. each (λ s. key m s ∷ []) (range 1 count)) (λ m. (1 ≤ m) × (m < 1 + members)) (range 1 members)
+    all-each (KeyFits count) (memberKeys count) (λ m. (1 ≤ m) × (m < 1 + members)) (range 1 members)
     (λ m hm.
-    all-each (KeyFits count) (λ s. key m s ∷ []) (λ s. (1 ≤ s) × (s < 1 + count)) (range 1 count)
-    (λ s hs. (record { member = record { above = hm .0; below = omega (arith, hm .1) }; security = record { above = hs .0; below = omega (arith, hs .1) } }, tt))
-    (all-range 1 count))
+    all-each (KeyFits count) (kindKeys count m) (λ n. Unit {0}) kinds
+    (λ n u. kind-fits count m n (record { above = hm .0; below = omega (arith, hm .1) }))
+    (all-any (λ n. Unit {0}) kinds (λ n. tt)))
     (all-range 1 members)
 
 pub keys-once : (count : ℕ) → Once (keys count)
@@ -215,12 +258,12 @@ module _ (count day : ℕ) (trades : List Trade) (h : All (TradeFits count) trad
 -- SUMS OVER KEYS AND TRADES
 
 -- what each key has of the trades in which it names one of the two parties is, over all keys, at most what the trades have
-pub named-le : (party f : Trade → ℕ) (trades : List Trade) (ks : List Key) → Once ks → sum (λ k. sum (λ t. only (isKey (party t) (t .security) k) (f t)) trades) ks ≤ sum f trades
-named-le party f trades ks once =
+pub named-le : (party kind f : Trade → ℕ) (trades : List Trade) (ks : List Key) → Once ks → sum (λ k. sum (λ t. only (isKey (party t) (kind t) (t .security) k) (f t)) trades) ks ≤ sum f trades
+named-le party kind f trades ks once =
     omega (
       arith,
-      sum-swap (λ k t. only (isKey (party t) (t .security) k) (f t)) ks trades,
-      sum-le (λ t. sum (λ k. only (isKey (party t) (t .security) k) (f t)) ks) f trades (λ t. once (party t) (t .security) (f t)),
+      sum-swap (λ k t. only (isKey (party t) (kind t) (t .security) k) (f t)) ks trades,
+      sum-le (λ t. sum (λ k. only (isKey (party t) (kind t) (t .security) k) (f t)) ks) f trades (λ t. once (party t) (kind t) (t .security) (f t)),
     )
 
 net-count : (day : ℕ) (trades : List Trade) (k : Key) → length (net day trades k) ≤ sum (λ t. only (sells k t) 1) trades + sum (λ t. only (buys k t) 1) trades
@@ -243,13 +286,13 @@ netted-count day trades ks once =
       length-each (net day trades) ks,
       sum-le (λ k. length (net day trades k)) (λ k. sum (λ t. only (sells k t) 1) trades + sum (λ t. only (buys k t) 1) trades) ks (net-count day trades),
       sum-add (λ k. sum (λ t. only (sells k t) 1) trades) (λ k. sum (λ t. only (buys k t) 1) trades) ks,
-      named-le (λ t. t .seller) (λ t. 1) trades ks once,
-      named-le (λ t. t .buyer) (λ t. 1) trades ks once,
+      named-le (λ t. t .seller) soldIn (λ t. 1) trades ks once,
+      named-le (λ t. t .buyer) boughtIn (λ t. 1) trades ks once,
       sum-length trades,
     )
 
 -- a difference counts only where it is above 0
-only-above : (a b : ℕ) (c : Bool) → only (ltb a b) (only c (b - a)) ≡ only c (b - a)
+pub only-above : (a b : ℕ) (c : Bool) → only (ltb a b) (only c (b - a)) ≡ only c (b - a)
 only-above a b c = go (ask (ltb a b))
   where
     go : Said (ltb a b) → only (ltb a b) (only c (b - a)) ≡ only c (b - a)
@@ -279,40 +322,45 @@ netted-units day trades ks once =
         )
 
     sold : sum (λ k. units (sells k) trades) ks ≤ sum (λ t. t .quantity) trades
-    sold = unfold units in named-le (λ t. t .seller) (λ t. t .quantity) trades ks once
+    sold = unfold units in named-le (λ t. t .seller) soldIn (λ t. t .quantity) trades ks once
 
 -- EQUAL TOTALS
 
+-- a side of a trade that some key names
+pub record Named (m n : ℕ) : Type 0 where
+  pub member : Within 1 63 m
+  pub kind : n ≤ kindNumber Client
+
 -- over complete keys, what the keys of some securities trade as one of the two parties is what is traded of those securities
-module _ (count : ℕ) (securities : ℕ → Bool) (party : Trade → ℕ) where
+module _ (count : ℕ) (securities : ℕ → Bool) (party kind : Trade → ℕ) where
   -- the key's security is the trade's
-  same-security : (t : Trade) (k : Key) → only (securities (k .security)) (only (isKey (party t) (t .security) k) (t .quantity)) ≡ only (isKey (party t) (t .security) k) (only (securities (t .security)) (t .quantity))
-  same-security t k = go (ask (isKey (party t) (t .security) k))
+  same-security : (t : Trade) (k : Key) → only (securities (k .security)) (only (isKey (party t) (kind t) (t .security) k) (t .quantity)) ≡ only (isKey (party t) (kind t) (t .security) k) (only (securities (t .security)) (t .quantity))
+  same-security t k = go (ask (isKey (party t) (kind t) (t .security) k))
     where
-      go : Said (isKey (party t) (t .security) k) → only (securities (k .security)) (only (isKey (party t) (t .security) k) (t .quantity)) ≡ only (isKey (party t) (t .security) k) (only (securities (t .security)) (t .quantity))
+      go : Said (isKey (party t) (kind t) (t .security) k) → only (securities (k .security)) (only (isKey (party t) (kind t) (t .security) k) (t .quantity)) ≡ only (isKey (party t) (kind t) (t .security) k) (only (securities (t .security)) (t .quantity))
       go (passed e) =
-          let same : t .security ≡ k .security = eqb-true (t .security) (k .security) (and-right (eqb (party t) (k .member)) (eqb (t .security) (k .security)) e) in
+          let same : t .security ≡ k .security = eqb-true (t .security) (k .security) (and-right (eqb (party t) (k .member) && eqb (kind t) (kindNumber (k .kind))) (eqb (t .security) (k .security)) e) in
           simp e (ap (λ (n : ℕ). only (securities n) (t .quantity)) (sym same))
       go (failed e) = simp e (only-zero (securities (k .security)))
 
-  pub traded-by : (trades : List Trade) (ks : List Key) → Complete count ks → All (TradeFits count) trades → All (λ t. Within 1 63 (party t)) trades
-      → sum (λ k. only (securities (k .security)) (units (λ t. isKey (party t) (t .security) k) trades)) ks ≡ sum (λ t. only (securities (t .security)) (t .quantity)) trades
+  pub traded-by : (trades : List Trade) (ks : List Key) → Complete count ks → All (TradeFits count) trades → All (λ t. Named (party t) (kind t)) trades
+      → sum (λ k. only (securities (k .security)) (units (λ t. isKey (party t) (kind t) (t .security) k) trades)) ks ≡ sum (λ t. only (securities (t .security)) (t .quantity)) trades
   unfolding units
   traded-by trades ks complete h parties =
-      sum-same (λ k. only (securities (k .security)) (sum (λ t. only (isKey (party t) (t .security) k) (t .quantity)) trades))
-      (λ k. sum (λ t. only (isKey (party t) (t .security) k) (only (securities (t .security)) (t .quantity))) trades) ks
-      (λ k. only-sum (securities (k .security)) (λ t. only (isKey (party t) (t .security) k) (t .quantity)) trades
-      ∙ sum-same (λ t. only (securities (k .security)) (only (isKey (party t) (t .security) k) (t .quantity))) (λ t. only (isKey (party t) (t .security) k) (only (securities (t .security)) (t .quantity))) trades (λ t. same-security t k))
-      ∙ sum-swap (λ k t. only (isKey (party t) (t .security) k) (only (securities (t .security)) (t .quantity))) ks trades
+      sum-same (λ k. only (securities (k .security)) (sum (λ t. only (isKey (party t) (kind t) (t .security) k) (t .quantity)) trades))
+      (λ k. sum (λ t. only (isKey (party t) (kind t) (t .security) k) (only (securities (t .security)) (t .quantity))) trades) ks
+      (λ k. only-sum (securities (k .security)) (λ t. only (isKey (party t) (kind t) (t .security) k) (t .quantity)) trades
+      ∙ sum-same (λ t. only (securities (k .security)) (only (isKey (party t) (kind t) (t .security) k) (t .quantity))) (λ t. only (isKey (party t) (kind t) (t .security) k) (only (securities (t .security)) (t .quantity))) trades (λ t. same-security t k))
+      ∙ sum-swap (λ k t. only (isKey (party t) (kind t) (t .security) k) (only (securities (t .security)) (t .quantity))) ks trades
       ∙ each-trade trades h parties
     where
-      each-trade : (ts : List Trade) → All (TradeFits count) ts → All (λ t. Within 1 63 (party t)) ts
-          → sum (λ t. sum (λ k. only (isKey (party t) (t .security) k) (only (securities (t .security)) (t .quantity))) ks) ts ≡ sum (λ t. only (securities (t .security)) (t .quantity)) ts
+      each-trade : (ts : List Trade) → All (TradeFits count) ts → All (λ t. Named (party t) (kind t)) ts
+          → sum (λ t. sum (λ k. only (isKey (party t) (kind t) (t .security) k) (only (securities (t .security)) (t .quantity))) ks) ts ≡ sum (λ t. only (securities (t .security)) (t .quantity)) ts
       each-trade [] f p = refl
       each-trade (t ∷ ts) f p =
           omega (
             arith,
-            complete (party t) (t .security) (only (securities (t .security)) (t .quantity)) (p .0) (f .0 .security),
+            complete (party t) (kind t) (t .security) (only (securities (t .security)) (t .quantity)) (p .0 .member) (p .0 .kind) (f .0 .security),
             each-trade ts (f .1) (p .1),
           )
 
@@ -360,8 +408,10 @@ module _ (day d s : ℕ) (trades : List Trade) where
         sum-each (λ p. only (longOn d s p) (p .netted)) (net day trades) ks,
         sum-same (λ k. nettedOf (longOn d s) (net day trades k)) (λ k. only (counts (k .security)) (units (buys k) trades - units (sells k) trades)) ks long-net,
         cross (λ k. counts (k .security)) (λ k. units (sells k) trades) (λ k. units (buys k) trades) ks,
-        traded-by count counts (λ t. t .seller) trades ks complete h (all-of (TradeFits count) (λ t. Within 1 63 (t .seller)) trades (λ t f. f .seller) h),
-        traded-by count counts (λ t. t .buyer) trades ks complete h (all-of (TradeFits count) (λ t. Within 1 63 (t .buyer)) trades (λ t f. f .buyer) h),
+        traded-by count counts (λ t. t .seller) soldIn trades ks complete h
+            (all-of (TradeFits count) (λ t. Named (t .seller) (soldIn t)) trades (λ t f. record { member = f .seller; kind = omega (arith, f .sellerkind, f .buyerkind) }) h),
+        traded-by count counts (λ t. t .buyer) boughtIn trades ks complete h
+            (all-of (TradeFits count) (λ t. Named (t .buyer) (boughtIn t)) trades (λ t f. record { member = f .buyer; kind = omega (arith, f .sellerkind, f .buyerkind) }) h),
       )
 
 -- ALL OF IT, FOR THE KEYS OF A REGISTER

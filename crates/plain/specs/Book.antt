@@ -13,6 +13,7 @@ use Rattle.plain.specs.declared.Opening.{Opening}
 use Rattle.plain.specs.declared.Latest.{Latest}
 use Rattle.plain.specs.declared.LatestPrice.{LatestPrice}
 use Rattle.plain.specs.declared.LatestPrice.the-variants.{Never, Given}
+use Rattle.plain.specs.declared.Kind.the-variants.{Own}
 use Rattle.plain.specs.declared.Position.{Position}
 use Rattle.plain.specs.declared.Award.{Award}
 use Rattle.plain.specs.declared.Ledger.{Ledger}
@@ -80,6 +81,7 @@ abbrev pub noPosition : Position
 noPosition =
     record {
       member = 0;
+      kind = Own;
       security = 0;
       short = false;
       settlement = record { 0 = 0 };

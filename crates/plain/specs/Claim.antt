@@ -1,27 +1,31 @@
 -- The claim about histories, for the plain book: what holds after every list of calls, refused ones included, from any new book.
-use Prim.Native.Nat.{ℕ, suc, _+_, _*_, _≤_, _<_}
+use Prim.Native.Nat.{ℕ, suc, _+_, _-_, _*_, _≤_, _<_}
 use mathlib.Core.Path.{_≡_}
 use mathlib.Core.Logic.{_≢_}
 use mathlib.Core.List.{List, [], map}
-use mathlib.Core.Bool.{true}
+use mathlib.Core.Bool.{Bool, true, not, _&&_}
 use lib.ListN.{length, getD}
 use lib.IntN.{pos, subℕ}
 use lib.Dec.{eqb}
-use Rattle.laws.specs.Limits.{ACCOUNTS, POSITIONS, AWARDS, SECURITIES}
-use Rattle.laws.specs.Lists.{All, range, sum, some}
+use Rattle.laws.specs.Limits.{ACCOUNTS, MEMBERS, POSITIONS, AWARDS, SECURITIES}
+use Rattle.laws.specs.Lists.{All, range, only, sum, some}
 use Rattle.laws.specs.Asked.{Within}
 use Rattle.laws.specs.Integers.{sumℤ}
+use Rattle.events.specs.declared.Trade.{Trade}
 use Rattle.events.specs.declared.Cash.{Cash}
 use Rattle.events.specs.declared.Event.the-variants as event
 use Rattle.plain.specs.declared.Opening.{Opening}
+use Rattle.plain.specs.declared.Kind.{Kind}
+use Rattle.plain.specs.declared.Position.{Position}
 use Rattle.plain.specs.declared.Piece.{Piece}
 use Rattle.plain.specs.Book.{Book, new, noPosition, positionOf, latestPrice}
+use Rattle.plain.specs.Netting.{kindNumber}
 use Rattle.plain.specs.Dealing.{manners, takenBy, fresh}
 use Rattle.plain.specs.Charging.{creditOf, debitOf, settlementTerms}
 use Rattle.plain.specs.Calls.{Call, isDischarge, shortOf}
 use Rattle.plain.specs.Refusals.{refusal}
-use Rattle.plain.specs.Histories.{eventOf, next, pieces, quantity, charged, run, handed, allCharges, acceptedEvents, formedBy, latestBy, balance}
-use Rattle.plain.specs.Invariants.{DueLong, Dealable, NeedsPrice, GivenToday}
+use Rattle.plain.specs.Histories.{eventOf, next, pieces, quantity, charged, run, handed, allCharges, acceptedEvents, formedBy, tradesOn, latestBy, balance}
+use Rattle.plain.specs.Invariants.{nettedOf, DueLong, Dealable, NeedsPrice, GivenToday}
 use Rattle.plain.specs.Sound.{Sound, Small}
 
 -- the pieces of a call, from its short n
@@ -43,6 +47,26 @@ pub record OnePrice (b : Book) (n : ℕ) (xs : List Piece) : Type 0 where
   pub most : All (λ term. term ≤ price) (settlementTerms b n xs)
   pub among : some (λ term. eqb term price) (settlementTerms b n xs) ≡ true
 
+-- "Demand 3 works out the netted quantity by kind too" (document 02, Slip 5): the units that a member sold, and bought, of a security in business of
+-- the kind with that number
+abbrev pub soldOf : ℕ → ℕ → ℕ → List Trade → ℕ
+soldOf member kind security ts =
+    sum (λ t. only (eqb (t .seller) member && eqb (t .sellerkind) kind && eqb (t .security) security) (t .quantity)) ts
+
+abbrev pub boughtOf : ℕ → ℕ → ℕ → List Trade → ℕ
+boughtOf member kind security ts =
+    sum (λ t. only (eqb (t .buyer) member && eqb (t .buyerkind) kind && eqb (t .security) security) (t .quantity)) ts
+
+-- whether a position of delivery day s is of that business
+abbrev pub isOf : ℕ → ℕ → ℕ → ℕ → Position → Bool
+isOf member kind security s p =
+    (eqb member (p .member) && eqb kind (kindNumber (p .kind)) && eqb security (p .security)) && eqb (p .settlement .0) s
+
+-- the positions that the close of day d made of that business: the shorts have what was sold beyond what was bought, the longs the reverse
+pub record NettedByKind (member kind security d : ℕ) (ts : List Trade) (ps : List Position) : Type 0 where
+  pub shorts : nettedOf (λ p. p .short && isOf member kind security (d + 2) p) ps ≡ soldOf member kind security ts - boughtOf member kind security ts
+  pub longs : nettedOf (λ p. not (p .short) && isOf member kind security (d + 2) p) ps ≡ boughtOf member kind security ts - soldOf member kind security ts
+
 -- "A refused call changes nothing", and hands out nothing
 pub record Refused (b : Book) (c : Call) : Type 0 where
   pub book : next b c ≡ b
@@ -55,9 +79,12 @@ pub record Claim (opening : Opening) (cs : List Call) : Type 0 where
   -- each position's netted quantity, worked out from the accepted trades and closes of the list alone, is the book's
   pub netted : (i : ℕ) → getD (run (new opening) cs .positions) i noPosition .netted
       ≡ getD (formedBy opening (acceptedEvents (new opening) cs)) i noPosition .netted
-  -- and so is what makes a position: its member, security, side, delivery day and reference price
+  -- and so is what makes a position: its member, kind, security, side, delivery day and reference price
   pub positions : map fresh (run (new opening) cs .positions) ≡ formedBy opening (acceptedEvents (new opening) cs)
-  -- it is what was delivered, bought in and settled in cash, summed over all pieces handed out in the list, by manner, and what is open
+  -- and so is the netted quantity of each member's business of each kind in each security, by the trades of the day alone
+  pub by-kind : (member security d : ℕ) (kind : Kind) → Within 1 MEMBERS member → Within 1 (opening .register .count) security
+      → NettedByKind member (kindNumber kind) security d (tradesOn opening (acceptedEvents (new opening) cs) d) (run (new opening) cs .positions)
+  -- a position's netted quantity is what was delivered, bought in and settled in cash, summed over all pieces handed out in the list, by manner, and what is open
   pub tallied : (i : ℕ) → i < length (run (new opening) cs .positions)
       → getD (run (new opening) cs .positions) i noPosition .netted
       ≡ sum (λ m. takenBy m (suc i) (handed (new opening) cs)) manners + getD (run (new opening) cs .positions) i noPosition .unsettled

@@ -30,6 +30,7 @@ abbrev pub withFigures : Position → (Manner → ℕ) → ℕ → Position
 withFigures p discharged left =
     record {
       member = p .member;
+      kind = p .kind;
       security = p .security;
       short = p .short;
       settlement = p .settlement;

@@ -90,6 +90,25 @@ formed ks day trades (event.Close ∷ es) = netted day trades ks ++ formed ks (s
 abbrev pub formedBy : Opening → List Event → List Position
 formedBy opening es = formed (keys (opening .register .count)) (firstDay opening) [] es
 
+-- the trades accepted on a day that was closed, from a day and the trades of that day so far: those that the close of day d netted
+unfoldable pub tradedOn : ℕ → ℕ → List Trade → List Event → List Trade
+tradedOn d day trades [] = []
+tradedOn d day trades (event.Trade t ∷ es) = tradedOn d day (trades ++ t ∷ []) es
+tradedOn d day trades (event.Price p ∷ es) = tradedOn d day trades es
+tradedOn d day trades (event.Delivery x ∷ es) = tradedOn d day trades es
+tradedOn d day trades (event.Attempt a ∷ es) = tradedOn d day trades es
+tradedOn d day trades (event.Offer o ∷ es) = tradedOn d day trades es
+tradedOn d day trades (event.Award a ∷ es) = tradedOn d day trades es
+tradedOn d day trades (event.Confirm c ∷ es) = tradedOn d day trades es
+tradedOn d day trades (event.Cash c ∷ es) = tradedOn d day trades es
+tradedOn d day trades (event.Close ∷ es) =
+    let later = tradedOn d (suc day) [] es in
+    cond (eqb day d) trades later
+
+-- those of a new book
+abbrev pub tradesOn : Opening → List Event → ℕ → List Trade
+tradesOn opening es d = tradedOn d (firstDay opening) [] es
+
 -- the latest price of a security that the accepted prices and closes alone make, from a day and what was given up to then
 unfoldable pub lastGiven : ℕ → ℕ → LatestPrice → List Event → LatestPrice
 lastGiven security day latest [] = latest
@@ -115,5 +134,5 @@ balance b k = subℕ (getD (b .ledger .credits) k 0) (getD (b .ledger .debits) k
 
 -- Unfolding this unfolds the whole book, for worked examples.
 unfoldable pub computing : Unit {0}
-unfolding along new keys units highestPrice made netOf net netted due longOf longsOn takers share dealTo names taken takenBy lowered lowering fresh failing insert byPrice awarded unconfirmed confirmedAward credited debited posted charge buyInCharges settlementPrice pricedAt payment cashChargesBy cashCharges awardFines lateFines closeCharges dealt discharged auctionAwards handsOut charges amount done stepToday free reasons refusal next pieces quantity charged run handed allCharges acceptedEvents formed lastGiven balance
+unfolding along new keys units highestPrice made netOf net netted due longOf longsOn takers share dealTo names taken takenBy lowered lowering fresh failing insert byPrice awarded unconfirmed confirmedAward credited debited posted charge buyInCharges settlementPrice pricedAt payment cashChargesBy cashCharges awardFines lateFines closeCharges dealt discharged auctionAwards handsOut charges amount done stepToday free reasons refusal next pieces quantity charged run handed allCharges acceptedEvents formed tradedOn lastGiven balance
 computing = tt

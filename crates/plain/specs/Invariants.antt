@@ -14,13 +14,14 @@ use Rattle.events.specs.declared.Cash as asked
 use Rattle.events.specs.declared.Event.{Event}
 use Rattle.events.specs.declared.Event.the-variants as event
 use Rattle.plain.specs.declared.LatestPrice.the-variants.{Given}
+use Rattle.plain.specs.declared.Kind.the-variants.{Client}
 use Rattle.plain.specs.declared.Position.{Position}
 use Rattle.plain.specs.declared.Piece.{Piece}
 use Rattle.plain.specs.declared.Award.{Award}
 use Rattle.plain.specs.declared.Manner.{Manner}
 use Rattle.plain.specs.declared.Manner.the-variants.{Delivered, BoughtIn, Cash}
 use Rattle.plain.specs.Book.{Book, Auction, givenOn, noPosition, positionOf, awardOf, latestOf, latestPrice}
-use Rattle.plain.specs.Netting.{Key}
+use Rattle.plain.specs.Netting.{Key, kindNumber}
 use Rattle.plain.specs.Dealing.{manners, figure, due, longOf}
 use Rattle.plain.specs.Calls.{handsOut}
 use Rattle.laws.specs.Asked.{Within}
@@ -32,6 +33,8 @@ pub record TradeFits (count : ℕ) (t : Trade) : Type 0 where
   pub security : Within 1 count (t .security)
   pub quantity : Within 1 MOST-QUANTITY (t .quantity)
   pub price : Within 1 MOST-PRICE (t .price)
+  pub sellerkind : t .sellerkind ≤ kindNumber Client
+  pub buyerkind : t .buyerkind ≤ kindNumber Client
 
 -- the fields of a position that no call changes
 pub record Fair (count day : ℕ) (p : Position) : Type 0 where
@@ -141,7 +144,7 @@ pub record AwardFits (a : Award) : Type 0 where
   pub quantity : Within 1 MOST-QUANTITY (a .quantity)
   pub price : Within 1 MOST-PRICE (a .price)
 
--- a key of a member and a registered security
+-- a key of a member and a registered security, of either kind
 pub record KeyFits (count : ℕ) (k : Key) : Type 0 where
   pub member : Within 1 MEMBERS (k .member)
   pub security : Within 1 count (k .security)

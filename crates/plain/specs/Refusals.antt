@@ -1,4 +1,4 @@
--- Document 01, 'Why a call is turned down', 8 to 26, and document 02, 32: each reason over the values that it looks at, the reasons of each call
+-- Document 01, 'Why a call is turned down', 8 to 26, and document 02, 32 and 33: each reason over the values that it looks at, the reasons of each call
 -- in the order of the papers' list, and what they say on the plain book. A reason is named after what turns the call down.
 use Prim.Native.Nat.{ℕ, _+_, _-_}
 use mathlib.Core.List.{List, [], _∷_, _++_}
@@ -19,9 +19,11 @@ use Rattle.events.specs.declared.Offer.{Offer}
 use Rattle.events.specs.declared.Event.the-variants as event
 use Rattle.plain.specs.declared.LatestPrice.{LatestPrice}
 use Rattle.plain.specs.declared.LatestPrice.the-variants.{Never, Given}
+use Rattle.plain.specs.declared.Kind.the-variants.{Client}
 use Rattle.plain.specs.declared.Position.{Position}
 use Rattle.plain.specs.declared.Award.{Award}
 use Rattle.plain.specs.Book.{Book, positionOf, awardOf, classOf, latestPrice}
+use Rattle.plain.specs.Netting.{kindNumber}
 use Rattle.plain.specs.Dealing.{due}
 use Rattle.plain.specs.Auction.{failing, unconfirmed}
 use Rattle.plain.specs.Calls.{Call, call}
@@ -65,9 +67,22 @@ isPrice price = within 1 MOST-PRICE price
 abbrev pub wrongPrice : ℕ → Reason
 wrongPrice price = not (isPrice price) ⇒ 13
 
--- 14. "Seller is buyer." Of a trade.
-abbrev pub sellerIsBuyer : ℕ → ℕ → Reason
-sellerIsBuyer seller buyer = eqb seller buyer ⇒ 14
+-- 14. "Seller is buyer." Of a trade; "Refusal 14 now needs equal kinds too" (document 02, Slip 5), by the bytes as they are.
+abbrev pub isOneParty : Trade → Bool
+isOneParty t = eqb (t .seller) (t .buyer) && eqb (t .sellerkind) (t .buyerkind)
+
+abbrev pub sellerIsBuyer : Trade → Reason
+sellerIsBuyer t = isOneParty t ⇒ 14
+
+-- 33. "It refuses with 33, after 14, a trade with another kind byte." (document 02, Slip 5) Of both its sides.
+abbrev pub ownOrClient : ℕ → Bool
+ownOrClient kind = leb kind (kindNumber Client)
+
+abbrev pub hasKinds : Trade → Bool
+hasKinds t = ownOrClient (t .sellerkind) && ownOrClient (t .buyerkind)
+
+abbrev pub wrongKind : Trade → Reason
+wrongKind t = not (hasKinds t) ⇒ 33
 
 -- 15. "512 trades are held." Of a trade.
 abbrev pub tradesFull : ℕ → Reason
@@ -158,7 +173,8 @@ tradeReasons securities held t =
     ∷ notRegistered securities (t .security)
     ∷ wrongQuantity (t .quantity)
     ∷ wrongPrice (t .price)
-    ∷ sellerIsBuyer (t .seller) (t .buyer)
+    ∷ sellerIsBuyer t
+    ∷ wrongKind t
     ∷ tradesFull held
     ∷ []
 

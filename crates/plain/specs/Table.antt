@@ -9,7 +9,7 @@ use mathlib.Core.Bool.{true, false}
 use lib.ListN.{replicate}
 use lib.IntN.{pos, negℤ}
 use Rattle.laws.specs.Limits.{ACCOUNTS}
-use Rattle.laws.specs.Lists.{range}
+use Rattle.laws.specs.Lists.{only, range}
 use Rattle.rules.specs.declared.Step.the-variants as step
 use Rattle.rules.specs.Windows.{shareStep, recurringStep, stepOn}
 use Rattle.rules.specs.Prices.{ceiling, raised, cashPrice}
@@ -24,8 +24,9 @@ use Rattle.plain.specs.declared.Piece.{Piece}
 use Rattle.plain.specs.declared.Manner.{Manner}
 use Rattle.plain.specs.declared.Manner.the-variants as manner
 use Rattle.plain.specs.Book.{Book, givenOn, latestPrice}
+use Rattle.plain.specs.Netting.{kindNumber}
 use Rattle.plain.specs.Histories.{run, handed, allCharges, refusals, quantities, balance, computing}
-use Rattle.plain.specs.Worked.{xx, oneShareBytes, oneShare, squeeze, example, twoDays, oldPrices, allDelivered, twoLongs, fourLongs}
+use Rattle.plain.specs.Worked.{xx, oneShareBytes, oneShare, twoSharesBytes, twoShares, squeeze, example, twoDays, oldPrices, allDelivered, twoLongs, fourLongs, bothKinds, failingByKind}
 
 -- a row: a value by the definitions, and the value expected
 pub record Row : Type 1 where
@@ -48,6 +49,10 @@ piece short long quantity manner cents =
 -- the figures of a position's line: netted, delivered, bought in, cash, open
 abbrev figures : Position → List ℕ
 figures p = p .netted ∷ p .delivered ∷ p .bought ∷ p .cash ∷ p .unsettled ∷ []
+
+-- what netting says of a position: its member, the number of its kind, its security, 1 for a short, netted, reference price
+abbrev holding : Position → List ℕ
+holding p = p .member ∷ kindNumber (p .kind) ∷ p .security ∷ only (p .short) 1 ∷ p .netted ∷ p .reference ∷ []
 
 abbrev settled : Book
 settled = run oneShare squeeze
@@ -86,6 +91,7 @@ table =
     ∷ (isin (xx 51) is false)
     -- the worked books open on a register that passes
     ∷ (registerRead oneShareBytes .number is 0)
+    ∷ (registerRead twoSharesBytes .number is 0)
     -- "30 bought in at 1,190 against 1,200: charge -300."
     ∷ (inCents (buyInCharge 30 1190 1200) is negℤ (pos 300))
     -- "Squeeze, class 1": the refusal 17 of day 2, the quantities, the pieces, and "Accounts 0 to 4"
@@ -131,8 +137,21 @@ table =
     ∷ piece 7 6 5 manner.Cash 25000
     ∷ piece 7 8 15 manner.Cash 75000
     ∷ []))
+    -- "Netting is by member, kind and security, positions are ordered so": the reference price within that group; dealing does not look at kinds
+    ∷ (map holding (run twoShares bothKinds .positions)
+    is ((1 ∷ 0 ∷ 1 ∷ 1 ∷ 10 ∷ 1500 ∷ [])
+    ∷ (1 ∷ 1 ∷ 1 ∷ 1 ∷ 10 ∷ 2000 ∷ [])
+    ∷ (1 ∷ 1 ∷ 2 ∷ 1 ∷ 30 ∷ 1000 ∷ [])
+    ∷ (2 ∷ 0 ∷ 2 ∷ 0 ∷ 30 ∷ 1000 ∷ [])
+    ∷ (2 ∷ 1 ∷ 1 ∷ 0 ∷ 20 ∷ 1500 ∷ [])
+    ∷ []))
+    ∷ (handed twoShares bothKinds is (piece 1 5 10 manner.Delivered 0 ∷ piece 2 5 10 manner.Delivered 0 ∷ []))
+    -- "Refusal 14 now needs equal kinds too"; "It refuses with 33, after 14, a trade with another kind byte."
+    ∷ (refusals twoShares bothKinds is (0 ∷ 0 ∷ 0 ∷ 14 ∷ 14 ∷ 33 ∷ 33 ∷ 33 ∷ 0 ∷ 0 ∷ 0 ∷ 0 ∷ []))
+    -- "A member failing in either kind may not offer."
+    ∷ (refusals oneShare failingByKind is (replicate 11 0 ++ 21 ∷ 21 ∷ 0 ∷ []))
     ∷ []
 
 pub every-row : Holds table
 unfolding table shareStep recurringStep stepOn ceiling raised cashPrice roundedHalfUp fee cashFee awardFine lateFine buyInCharge inCents check.computing computing
-every-row = (refl, (refl, (refl, (refl, (λ i more. fee-above (4000000001 + more) (omega arith) i, (refl, (refl, (refl, (refl, (refl, (refl, (refl, (refl, (refl, (refl, (refl, (refl, (refl, (refl, (refl, (refl, (refl, (refl, (refl, (refl, (refl, (refl, (refl, (refl, (refl, (refl, (refl, (refl, (refl, (refl, (refl, (refl, (refl, (refl, tt)))))))))))))))))))))))))))))))))))))))
+every-row = (refl, (refl, (refl, (refl, (λ i more. fee-above (4000000001 + more) (omega arith) i, (refl, (refl, (refl, (refl, (refl, (refl, (refl, (refl, (refl, (refl, (refl, (refl, (refl, (refl, (refl, (refl, (refl, (refl, (refl, (refl, (refl, (refl, (refl, (refl, (refl, (refl, (refl, (refl, (refl, (refl, (refl, (refl, (refl, (refl, (refl, (refl, (refl, (refl, (refl, tt))))))))))))))))))))))))))))))))))))))))))))

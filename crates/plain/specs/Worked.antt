@@ -19,11 +19,31 @@ oneShareBytes = 1 ∷ 0 ∷ 1 ∷ xx 50
 abbrev pub oneShare : Book
 oneShare = new (openingRead oneShareBytes)
 
+-- two shares, XX0000000002 and XX0000000010
+abbrev pub twoSharesBytes : List ℕ
+twoSharesBytes = 2 ∷ 0 ∷ 1 ∷ 1 ∷ xx 50 ++ 88 ∷ 88 ∷ replicate 8 48 ++ 49 ∷ 48 ∷ []
+
+abbrev pub twoShares : Book
+twoShares = new (openingRead twoSharesBytes)
+
 -- events about its one security and its first short, position 1
 
+-- a trade with the kind bytes of both sides, each after its member
+abbrev tradeOf : ℕ → ℕ → ℕ → ℕ → ℕ → ℕ → ℕ → Event
+tradeOf seller sellerkind buyer buyerkind security quantity price =
+    event.Trade
+    (record {
+      seller = seller;
+      buyer = buyer;
+      security = security;
+      quantity = quantity;
+      price = price;
+      sellerkind = sellerkind;
+      buyerkind = buyerkind;
+    })
+
 abbrev trade : ℕ → ℕ → ℕ → ℕ → Event
-trade seller buyer quantity price =
-    event.Trade (record { seller = seller; buyer = buyer; security = 1; quantity = quantity; price = price })
+trade seller buyer quantity price = tradeOf seller 0 buyer 0 1 quantity price
 
 abbrev price : ℕ → Event
 price p = event.Price (record { security = 1; price = p })
@@ -34,11 +54,17 @@ deliveryOf n q = event.Delivery (record { position = n; quantity = q })
 abbrev delivery : ℕ → Event
 delivery q = deliveryOf 1 q
 
+abbrev offerOn : ℕ → ℕ → ℕ → ℕ → Event
+offerOn n member quantity price = event.Offer (record { position = n; offerer = member; quantity = quantity; price = price })
+
 abbrev offer : ℕ → ℕ → ℕ → Event
-offer member quantity price = event.Offer (record { position = 1; offerer = member; quantity = quantity; price = price })
+offer member quantity price = offerOn 1 member quantity price
+
+abbrev attemptOn : ℕ → Event
+attemptOn n = event.Attempt (record { position = n })
 
 abbrev attempt : Event
-attempt = event.Attempt (record { position = 1 })
+attempt = attemptOn 1
 
 abbrev cashOf : ℕ → Event
 cashOf n = event.Cash (record { position = n })
@@ -158,4 +184,40 @@ fourLongs =
     ++ (price 1100
     ∷ cash
     ∷ cashOf 7
+    ∷ []))
+
+-- own and client business, on a register of two shares. Day 1: member 1's clients sell 30 of security 2 to member 2 at 1,000, member 1 itself sells 20 of
+-- security 1 to member 2's clients at 1,500, and member 1's clients sell 10 of security 1 to member 1 itself at 2,000. Then five trades that are
+-- refused: seller is buyer with the kind bytes 0 and 0, and 7 and 7; with 7 and 8; the seller's byte is 2; the buyer's is 255. Day 3: 10 of position 1
+-- and 10 of position 2 are delivered
+abbrev pub bothKinds : List Call
+bothKinds =
+    callsOf
+    (tradeOf 1 1 2 0 2 30 1000
+    ∷ tradeOf 1 0 2 1 1 20 1500
+    ∷ tradeOf 1 1 1 0 1 10 2000
+    ∷ tradeOf 1 0 1 0 1 10 2000
+    ∷ tradeOf 1 7 1 7 1 10 2000
+    ∷ tradeOf 1 7 1 8 1 10 2000
+    ∷ tradeOf 1 2 2 0 1 10 2000
+    ∷ tradeOf 1 0 2 255 1 10 2000
+    ∷ event.Close
+    ∷ event.Close
+    ∷ deliveryOf 1 10
+    ∷ deliveryOf 2 10
+    ∷ [])
+
+-- who may not offer. Day 1: member 1's clients sell 100 to 2, member 3 itself sells 50 to 2. Day 8: an attempt on member 3's short, position 3, and offers of
+-- members 1, 3 and 4
+abbrev pub failingByKind : List Call
+failingByKind =
+    callsOf
+    (tradeOf 1 1 2 0 1 100 1000
+    ∷ trade 3 2 50 1000
+    ∷ closes 7
+    ++ (price 1100
+    ∷ attemptOn 3
+    ∷ offerOn 3 1 10 1100
+    ∷ offerOn 3 3 10 1100
+    ∷ offerOn 3 4 10 1100
     ∷ []))

@@ -20,9 +20,16 @@ pub enum LatestPrice {
     Given(Latest),
 }
 
-// A member's netted quantity of a security, short or long.
+// The kind of business that a side of a trade, and a position, belongs to: a member's own or its clients'.
+pub enum Kind {
+    Own,
+    Client,
+}
+
+// A member's netted quantity of a security in business of one kind, short or long.
 pub struct Position {
     pub member: u8,
+    pub kind: Kind,
     pub security: u16,
     pub short: bool,
     // the delivery day S

@@ -88,7 +88,7 @@ ClosedBefore security items n = (j : ℕ) → j < n → longOf security (getD it
 pub record Walkable (rows sheet : List ℕ) (count day short quantity start : ℕ) : Type 0 where
   pub dealing : Dealing (positionTable rows count) day short quantity
   pub some : 0 < quantity
-  pub rows-length : length rows ≡ 10240
+  pub rows-length : length rows ≡ 11264
   pub sheet-length : length sheet ≡ 4096
   pub within : start ≤ count
   pub closed : ClosedBefore (rowOf rows short .security) (rowsOf rows) start
@@ -96,7 +96,7 @@ pub record Walkable (rows sheet : List ℕ) (count day short quantity start : �
 -- what it leaves in them, the number of pieces, and the place where it ended
 pub record Walked (rows : List ℕ) (count day short quantity : ℕ) (manner : Manner) (after sheet : List ℕ) (pieces end : ℕ) : Type 0 where
   pub dealt : DealtOut (positionTable rows count) day short quantity manner (record { positions = positionTable after count; pieces = pieceTable manner sheet pieces })
-  pub rows-length : length after ≡ 10240
+  pub rows-length : length after ≡ 11264
   pub sheet-length : length sheet ≡ 4096
   pub within : end ≤ count
   pub closed : ClosedBefore (rowOf rows short .security) (rowsOf after) end

@@ -52,7 +52,7 @@ fn lowered_by(p: Position, manner: Manner, units: u32) -> Position
 // The table is in order of rising delivery days, so the walk steps along it from day to day, and within a day from
 // position to position; it is left as soon as the quantity is dealt out. It starts where the first open long may be. The table is lent, and changed where it stands.
 pub fn deal(
-    rows: &mut [u32; 10240],
+    rows: &mut [u32; 11264],
     sheet: &mut [u64; 4096],
     count: usize,
     day: BusinessDay,

@@ -6,7 +6,7 @@ ghost use lib.Dec.{eqb};
 ghost use Rattle.laws.specs.Asked.{within};
 ghost use Rattle.rules.specs.Windows.{stepOn};
 ghost use Rattle.laws.specs.Refusals.{first};
-ghost use Rattle.plain.specs.Refusals.{isMember, isQuantity, isPrice, runsOn, isNever, isGivenBefore};
+ghost use Rattle.plain.specs.Refusals.{isMember, isQuantity, isPrice, isOneParty, hasKinds, runsOn, isNever, isGivenBefore};
 ghost use Rattle.plain.specs.Refusals.{tradeReasons, priceReasons, lookupReasons, deliveryReasons, confirmReasons, cashReasons, attemptReasons, offerReasons, auctionReasons, awardReasons, closeReasons};
 use events::Delivery;
 use events::Offer;
@@ -43,6 +43,8 @@ pub const WRONG_PRICE: u8 = 13;
 
 pub const SELLER_IS_BUYER: u8 = 14;
 
+pub const WRONG_KIND: u8 = 33;
+
 pub const TRADES_FULL: u8 = 15;
 
 pub const LONG: u8 = 16;
@@ -68,6 +70,9 @@ pub const NOT_ENOUGH: u8 = 24;
 pub const CONFIRMED: u8 = 25;
 
 pub const NO_NEXT_DAY: u8 = 26;
+
+// The greater of the two kind bytes: 0 own, 1 client.
+const CLIENT: u8 = 1;
 
 pub fn is_within(low: usize, high: usize, n: usize) -> bool
     ensures { λ r. ⌜ r ≡ within low high n ⌝ }
@@ -99,6 +104,28 @@ fn is_price(price: u32) -> bool
     is_within(1, MOST_PRICE as usize, price as usize)
 }
 
+// Seller and buyer are the same member in business of the same kind, by the bytes as they are.
+fn is_one_party(t: Trade) -> bool
+    ensures { λ r. ⌜ r ≡ isOneParty t ⌝ }
+{
+    if t.seller == t.buyer {
+        t.sellerkind == t.buyerkind
+    } else {
+        false
+    }
+}
+
+// The kind bytes of both sides are own or client.
+fn has_kinds(t: Trade) -> bool
+    ensures { λ r. ⌜ r ≡ hasKinds t ⌝ }
+{
+    if t.sellerkind <= CLIENT {
+        t.buyerkind <= CLIENT
+    } else {
+        false
+    }
+}
+
 pub fn trade_refusal(securities: u16, held: usize, t: Trade) -> u8
     ensures { λ r. ⌜ r ≡ first (tradeReasons securities held t) ⌝ }
 {
@@ -117,8 +144,11 @@ pub fn trade_refusal(securities: u16, held: usize, t: Trade) -> u8
     if !is_price(t.price) {
         return WRONG_PRICE;
     }
-    if t.seller == t.buyer {
+    if is_one_party(t) {
         return SELLER_IS_BUYER;
+    }
+    if !has_kinds(t) {
+        return WRONG_KIND;
     }
     if TRADES <= held {
         return TRADES_FULL;

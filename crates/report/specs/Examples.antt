@@ -5,6 +5,7 @@ use mathlib.Core.List.{List, [], _∷_, _++_}
 use mathlib.Core.Bool.{true, false}
 use Rattle.laws.specs.Lists.{each}
 use Rattle.plain.specs.declared.Manner.the-variants.{Delivered}
+use Rattle.plain.specs.declared.Kind.the-variants.{Own}
 use Rattle.plain.specs.declared.Position.{Position}
 use Rattle.plain.specs.declared.Piece.{Piece}
 use Rattle.report.specs.Digits.{digits}
@@ -48,6 +49,7 @@ short : Position
 short =
     record {
       member = 1;
+      kind = Own;
       security = 1;
       short = true;
       settlement = record { 0 = 3 };
@@ -63,6 +65,7 @@ long : Position
 long =
     record {
       member = 2;
+      kind = Own;
       security = 1;
       short = false;
       settlement = record { 0 = 3 };

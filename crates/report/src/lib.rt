@@ -248,7 +248,7 @@ pub fn event_lines(
 }
 
 // The lines of the first `count` positions, by rising number from 1. The page has at least 80 bytes for each.
-pub fn position_lines(page: &mut [u8], rows: &[u32; 10240], count: usize) -> usize
+pub fn position_lines(page: &mut [u8], rows: &[u32; 11264], count: usize) -> usize
     requires { ⌜ count ≤ POSITIONS ⌝ }
     ensures { λ r. ⌜ Wrote (LINE * count) (positionLines (positions (positionTable (now (rows .entry)) count))) (now (page .entry)) (now (page .exit)) r ⌝ }
 {

@@ -9,52 +9,59 @@ use Rattle.cells.specs.Table.{puts, Reads}
 use Rattle.cells.specs.Laws as law
 use Rattle.cells.specs.Laws.{first-cell, bit-back}
 use Rattle.events.specs.declared.Trade.{Trade}
+use Rattle.plain.specs.declared.Kind.{Kind}
+use Rattle.plain.specs.declared.Kind.the-variants.{Own, Client}
 use Rattle.plain.specs.declared.Position.{Position}
 use Rattle.plain.specs.declared.Award.{Award}
 use Rattle.plain.specs.Book.{noPosition, noAward}
+use Rattle.plain.specs.Netting.{kindNumber, kindOf}
 use Rattle.rows.specs.Rows.{bitOf, rowFrom, rowsOf, tradeFrom, tradesOf, noTrade, awardFrom, awardsOf}
 
 -- Positions
 
-row-reads : Reads 10 rowFrom
-row-reads xs ys i j e =
-    rw (first-cell 10 xs ys i j (omega arith) e, e 1 (omega arith), e 2 (omega arith), e 3 (omega arith), e 4 (omega arith), e 5 (omega arith), e 6 (omega arith), e 7 (omega arith), e 8 (omega arith), e 9 (omega arith))
+kind-back : (kind : Kind) → kindOf (kindNumber kind) ≡ kind
+kind-back Own = refl
+kind-back Client = refl
 
-pub row-is : (xs : List ℕ) (k : ℕ) → k < 1024 → getD (rowsOf xs) k noPosition ≡ rowFrom xs (10 * k)
+row-reads : Reads 11 rowFrom
+row-reads xs ys i j e =
+    rw (first-cell 11 xs ys i j (omega arith) e, e 1 (omega arith), e 2 (omega arith), e 3 (omega arith), e 4 (omega arith), e 5 (omega arith), e 6 (omega arith), e 7 (omega arith), e 8 (omega arith), e 9 (omega arith), e 10 (omega arith))
+
+pub row-is : (xs : List ℕ) (k : ℕ) → k < 1024 → getD (rowsOf xs) k noPosition ≡ rowFrom xs (11 * k)
 unfolding rowsOf
-row-is = law.place-is noPosition 10 1024 rowFrom
+row-is = law.place-is noPosition 11 1024 rowFrom
 
 pub length-rows : (xs : List ℕ) → length (rowsOf xs) ≡ 1024
 unfolding rowsOf
-length-rows = law.length-table noPosition 10 1024 rowFrom
+length-rows = law.length-table noPosition 11 1024 rowFrom
 
-pub row-stored : (xs : List ℕ) (k : ℕ) (p : Position) (b : ℕ) → length xs ≡ 10240 → k < 1024 → p .member < 256 → p .security < 65536 → p .settlement .0 < 65536 → b ≡ bitOf (p .short)
-    → rowsOf (puts (set xs (10 * k) (p .member)) (10 * k) 1 (p .security ∷ b ∷ p .settlement .0 ∷ p .reference ∷ p .netted ∷ p .delivered ∷ p .bought ∷ p .cash ∷ p .unsettled ∷ [])) ≡ set (rowsOf xs) k p
+pub row-stored : (xs : List ℕ) (k : ℕ) (p : Position) (b n : ℕ) → length xs ≡ 11264 → k < 1024 → p .member < 256 → p .security < 65536 → p .settlement .0 < 65536 → b ≡ bitOf (p .short) → n ≡ kindNumber (p .kind)
+    → rowsOf (puts (set xs (11 * k) (p .member)) (11 * k) 1 (p .security ∷ b ∷ p .settlement .0 ∷ p .reference ∷ p .netted ∷ p .delivered ∷ p .bought ∷ p .cash ∷ p .unsettled ∷ n ∷ [])) ≡ set (rowsOf xs) k p
 unfolding rowsOf
-row-stored xs k p b long inside m s d e =
-    law.row-stored noPosition 10 1024 rowFrom row-reads xs k (p .member) (p .security ∷ b ∷ p .settlement .0 ∷ p .reference ∷ p .netted ∷ p .delivered ∷ p .bought ∷ p .cash ∷ p .unsettled ∷ []) p long inside refl
-    (rw (e, bit-back (p .short), mod-eq-of-lt m, mod-eq-of-lt s, mod-eq-of-lt d))
+row-stored xs k p b n long inside m s d e f =
+    law.row-stored noPosition 11 1024 rowFrom row-reads xs k (p .member) (p .security ∷ b ∷ p .settlement .0 ∷ p .reference ∷ p .netted ∷ p .delivered ∷ p .bought ∷ p .cash ∷ p .unsettled ∷ n ∷ []) p long inside refl
+    (rw (e, f, bit-back (p .short), kind-back (p .kind), mod-eq-of-lt m, mod-eq-of-lt s, mod-eq-of-lt d))
 
 -- Trades
 
-trade-reads : Reads 5 tradeFrom
+trade-reads : Reads 7 tradeFrom
 trade-reads xs ys i j e =
-    rw (first-cell 5 xs ys i j (omega arith) e, e 1 (omega arith), e 2 (omega arith), e 3 (omega arith), e 4 (omega arith))
+    rw (first-cell 7 xs ys i j (omega arith) e, e 1 (omega arith), e 2 (omega arith), e 3 (omega arith), e 4 (omega arith), e 5 (omega arith), e 6 (omega arith))
 
-pub trade-is : (xs : List ℕ) (k : ℕ) → k < 512 → getD (tradesOf xs) k noTrade ≡ tradeFrom xs (5 * k)
+pub trade-is : (xs : List ℕ) (k : ℕ) → k < 512 → getD (tradesOf xs) k noTrade ≡ tradeFrom xs (7 * k)
 unfolding tradesOf
-trade-is = law.place-is noTrade 5 512 tradeFrom
+trade-is = law.place-is noTrade 7 512 tradeFrom
 
 pub length-trades : (xs : List ℕ) → length (tradesOf xs) ≡ 512
 unfolding tradesOf
-length-trades = law.length-table noTrade 5 512 tradeFrom
+length-trades = law.length-table noTrade 7 512 tradeFrom
 
-pub trade-stored : (xs : List ℕ) (k : ℕ) (t : Trade) → length xs ≡ 2560 → k < 512 → t .seller < 256 → t .buyer < 256 → t .security < 65536
-    → tradesOf (puts (set xs (5 * k) (t .seller)) (5 * k) 1 (t .buyer ∷ t .security ∷ t .quantity ∷ t .price ∷ [])) ≡ set (tradesOf xs) k t
+pub trade-stored : (xs : List ℕ) (k : ℕ) (t : Trade) → length xs ≡ 3584 → k < 512 → t .seller < 256 → t .buyer < 256 → t .security < 65536 → t .sellerkind < 256 → t .buyerkind < 256
+    → tradesOf (puts (set xs (7 * k) (t .seller)) (7 * k) 1 (t .buyer ∷ t .security ∷ t .quantity ∷ t .price ∷ t .sellerkind ∷ t .buyerkind ∷ [])) ≡ set (tradesOf xs) k t
 unfolding tradesOf
-trade-stored xs k t long inside s b c =
-    law.row-stored noTrade 5 512 tradeFrom trade-reads xs k (t .seller) (t .buyer ∷ t .security ∷ t .quantity ∷ t .price ∷ []) t long inside refl
-    (rw (mod-eq-of-lt s, mod-eq-of-lt b, mod-eq-of-lt c))
+trade-stored xs k t long inside s b c m n =
+    law.row-stored noTrade 7 512 tradeFrom trade-reads xs k (t .seller) (t .buyer ∷ t .security ∷ t .quantity ∷ t .price ∷ t .sellerkind ∷ t .buyerkind ∷ []) t long inside refl
+    (rw (mod-eq-of-lt s, mod-eq-of-lt b, mod-eq-of-lt c, mod-eq-of-lt m, mod-eq-of-lt n))
 
 -- Awards
 

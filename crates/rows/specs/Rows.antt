@@ -1,4 +1,4 @@
--- The tables of positions, trades and awards as numbers: ten for each position, five for each trade and award.
+-- The tables of positions, trades and awards as numbers: eleven for each position, seven for each trade, five for each award.
 use Prim.Native.Nat.{ℕ, _+_, _%_}
 use mathlib.Core.List.{List}
 use lib.ListN.{getD}
@@ -9,12 +9,14 @@ pub use Rattle.cells.specs.Table.{bitOf}
 use Rattle.events.specs.declared.Trade.{Trade}
 use Rattle.plain.specs.declared.Position.{Position}
 use Rattle.plain.specs.declared.Award.{Award}
+use Rattle.plain.specs.Netting.{kindOf}
 
--- the position whose ten numbers begin at a place of the list
+-- the position whose eleven numbers begin at a place of the list
 abbrev pub rowFrom : List ℕ → ℕ → Position
 rowFrom xs at =
     record {
       member = getD xs at 0 % 256;
+      kind = kindOf (getD xs (at + 10) 0);
       security = getD xs (at + 1) 0 % 65536;
       short = eqb (getD xs (at + 2) 0) 1;
       settlement = record { 0 = getD xs (at + 3) 0 % 65536 };
@@ -34,6 +36,8 @@ tradeFrom xs at =
       security = getD xs (at + 2) 0 % 65536;
       quantity = getD xs (at + 3) 0;
       price = getD xs (at + 4) 0;
+      sellerkind = getD xs (at + 5) 0 % 256;
+      buyerkind = getD xs (at + 6) 0 % 256;
     }
 
 abbrev pub awardFrom : List ℕ → ℕ → Award
@@ -47,14 +51,14 @@ awardFrom xs at =
     }
 
 abbrev pub noTrade : Trade
-noTrade = record { seller = 0; buyer = 0; security = 0; quantity = 0; price = 0 }
+noTrade = record { seller = 0; buyer = 0; security = 0; quantity = 0; price = 0; sellerkind = 0; buyerkind = 0 }
 
 -- the 1,024 positions, 512 trades and 256 awards
 unfoldable pub rowsOf : List ℕ → List Position
-rowsOf xs = tableFrom 10 POSITIONS rowFrom xs
+rowsOf xs = tableFrom 11 POSITIONS rowFrom xs
 
 unfoldable pub tradesOf : List ℕ → List Trade
-tradesOf xs = tableFrom 5 TRADES tradeFrom xs
+tradesOf xs = tableFrom 7 TRADES tradeFrom xs
 
 unfoldable pub awardsOf : List ℕ → List Award
 awardsOf xs = tableFrom 5 AWARDS awardFrom xs

@@ -115,8 +115,8 @@ pub fn play_events(
     page: &mut [u8],
     file: &[u8],
     core: Core,
-    rows: &mut [u32; 10240],
-    trades: &mut [u32; 2560],
+    rows: &mut [u32; 11264],
+    trades: &mut [u32; 3584],
     awards: &mut [u32; 1280],
     counts: &mut [u32; 2048],
     sheet: &mut [u64; 4096],
@@ -152,7 +152,7 @@ pub fn play_events(
 }
 
 // The lines of the positions and accounts.
-pub fn end_lines(page: &mut [u8], core: Core, rows: &[u32; 10240]) -> usize
+pub fn end_lines(page: &mut [u8], core: Core, rows: &[u32; 11264]) -> usize
     requires { ⌜ ((trades awards counts : List ℕ) × Held core (numbers (now rows) trades awards counts)) ⌝ }
     ensures { λ r. ⌜ ((trades awards counts : List ℕ) → Wrote END (endText (bookOf core (numbers (now (rows .entry)) trades awards counts))) (now (page .entry)) (now (page .exit)) r) ⌝ }
 {

@@ -56,7 +56,7 @@ impl Book {
         self.auction.as_ref().is_some_and(|auction| auction.short == short)
     }
 
-    /// Whether the member has failed, for a day at least, to deliver the security.
+    /// Whether the member has failed, for a day at least, to deliver the security, in either kind.
     pub fn is_failing(&self, member: u8, security: usize) -> bool {
         self.securities[security]
             .shorts

@@ -1,12 +1,12 @@
 //! The fails book: what it holds, and its nine calls. Each call checks in the order of the refusal numbers, but for 32,
-//! which comes after 19.
+//! which comes after 19, and 33, which comes after 14.
 
 mod auction;
 mod close;
 mod discharge;
 mod netting;
 
-use crate::events::Event;
+use crate::events::{Event, Party};
 use crate::refusal::Refusal;
 use crate::register;
 
@@ -55,10 +55,42 @@ pub struct LatestPrice {
 #[derive(Clone, Copy)]
 pub struct Trade {
     pub security: usize,
-    pub seller: u8,
-    pub buyer: u8,
+    pub seller: Holder,
+    pub buyer: Holder,
     pub quantity: u32,
     pub price: u32,
+}
+
+/// Whose a side of a trade is. A member holds its own business and its clients' apart, but has one account.
+#[derive(Clone, Copy, Debug, PartialEq, Eq)]
+pub struct Holder {
+    pub member: u8,
+    pub kind: Business,
+}
+
+/// The kind of a side of a trade and of a position: a member's own business, or its clients'. Positions of one close are
+/// numbered in this order.
+#[derive(Clone, Copy, Debug, PartialEq, Eq, PartialOrd, Ord)]
+pub enum Business {
+    Own,
+    Client,
+}
+
+impl Holder {
+    fn of(party: Party) -> Option<Holder> {
+        Business::of(party.kind).map(|kind| Holder { member: party.member, kind })
+    }
+}
+
+impl Business {
+    /// The kind that a byte stands for. No others than 0 and 1 do.
+    pub fn of(byte: u8) -> Option<Business> {
+        match byte {
+            0 => Some(Business::Own),
+            1 => Some(Business::Client),
+            _ => None,
+        }
+    }
 }
 
 #[derive(Clone, Copy, Debug, PartialEq, Eq)]
@@ -76,6 +108,7 @@ pub enum Manner {
 
 pub struct Position {
     pub member: u8,
+    pub kind: Business,
     pub security: usize,
     pub side: Side,
     pub delivery_day: u16,
@@ -209,12 +242,14 @@ impl Book {
         self.accounts.charges.as_mut().map(std::mem::take).unwrap_or_default()
     }
 
-    fn trade(&mut self, security: u16, seller: u8, buyer: u8, quantity: u32, price: u32) -> Result<u32, Refusal> {
-        require(is_member(seller) && is_member(buyer), Refusal::Member)?;
+    fn trade(&mut self, security: u16, seller: Party, buyer: Party, quantity: u32, price: u32) -> Result<u32, Refusal> {
+        require(is_member(seller.member) && is_member(buyer.member), Refusal::Member)?;
         let security = self.security(security)?;
         require(is_quantity(quantity), Refusal::Quantity)?;
         require(is_price(price), Refusal::Price)?;
+        // Members and kind bytes alike, whether or not the bytes are kinds.
         require(seller != buyer, Refusal::SellerIsBuyer)?;
+        let (seller, buyer) = Holder::of(seller).zip(Holder::of(buyer)).ok_or(Refusal::TradeKind)?;
         require(self.trades.len() < MOST_TRADES, Refusal::TradesFull)?;
         self.trades.push(Trade { security, seller, buyer, quantity, price });
         Ok(quantity)

@@ -5,7 +5,7 @@ use super::same;
 use crate::check::{Check, Tests};
 use fails_book_tests::desk::Answer;
 use fails_book_tests::histories::registers::completed;
-use second::events::{file_of, Event, MOST_EVENTS};
+use second::events::{file_of, Event, Party, MOST_EVENTS};
 use second::register::{self, bytes_of, Security, MOST_SECURITIES};
 use std::collections::BTreeSet;
 use std::ffi::OsStr;
@@ -94,7 +94,8 @@ fn largest() -> (Vec<u8>, Vec<u8>) {
     let trades = (0..512).map(|number: u16| {
         // Sixteen trades in each security, between members of which none trades twice.
         let (security, seller) = (1 + number / 16, 1 + 2 * (number % 16) as u8);
-        Event::Trade { security, seller, buyer: seller + 1, quantity: 1_000_000, price: 1 }
+        let [seller, buyer] = [seller, seller + 1].map(Party::own);
+        Event::Trade { security, seller, buyer, quantity: 1_000_000, price: 1 }
     });
     let events: Vec<Event> = trades.chain(std::iter::repeat(Event::Close)).take(MOST_EVENTS).collect();
     (bytes_of(&register), file_of(&events))

@@ -1,8 +1,8 @@
 //! The table for a spreadsheet: its rows on an example, and on histories all that is read back from it.
 
 use super::player::shown;
-use super::same;
 use super::walk::played;
+use super::{kind_name, same};
 use crate::check::{Check, Round, Tests};
 use fails_book_tests::histories;
 use second::book::{Cause, Charge, Position};
@@ -19,7 +19,7 @@ const SQUEEZE_TABLE: &str = include_str!("../../../examples/squeeze.csv");
 const HISTORIES: usize = 300;
 const LONG_HISTORIES: usize = 4;
 
-const COLUMNS: [&str; 30] = [
+const COLUMNS: [&str; 32] = [
     "record",
     "event",
     "day",
@@ -31,7 +31,9 @@ const COLUMNS: [&str; 30] = [
     "long",
     "award",
     "member",
+    "member_kind",
     "counterparty",
+    "counterparty_kind",
     "side",
     "stated_quantity",
     "quantity",
@@ -56,14 +58,18 @@ const COLUMNS: [&str; 30] = [
 const USED: [(&str, &str); 5] = [
     (
         "event",
-        "event day line kind security isin position award member counterparty stated_quantity quantity price refusal \
-         reason text",
+        "event day line kind security isin position award member member_kind counterparty counterparty_kind \
+         stated_quantity quantity price refusal reason text",
     ),
-    ("piece", "event day line kind security isin position long member counterparty quantity manner cents"),
+    (
+        "piece",
+        "event day line kind security isin position long member member_kind counterparty counterparty_kind quantity \
+         manner cents",
+    ),
     (
         "position",
-        "event day line kind security isin position member side reference_price delivery_day netted delivered \
-         bought_in cash open",
+        "event day line kind security isin position member member_kind side reference_price delivery_day netted \
+         delivered bought_in cash open",
     ),
     (
         "charge",
@@ -242,7 +248,10 @@ fn transcript_of(records: &[Record]) -> String {
 fn events_of(records: &[Record]) -> Vec<String> {
     let event = |row: &Record| {
         let columns = match row["kind"].as_str() {
-            "trade" => "kind member counterparty security stated_quantity price",
+            "trade" if row["member_kind"] == "own" && row["counterparty_kind"] == "own" => {
+                "kind member counterparty security stated_quantity price"
+            }
+            "trade" => "kind member member_kind counterparty counterparty_kind security stated_quantity price",
             "price" => "kind security price",
             "delivery" => "kind position stated_quantity",
             "offer" => "kind position member stated_quantity price",
@@ -257,6 +266,8 @@ fn events_of(records: &[Record]) -> Vec<String> {
 
 fn events_wanted(source: &Source, played: &Played) -> Vec<String> {
     let text = Input::from_bytes(&source.bytes).and_then(|input| text::write(&input)).unwrap_or_default();
+    // Where a text has the word kind and a number, the table has the number.
+    let text = text.replace(" kind ", " ");
     let lines = text.lines().skip(played.register.len());
     let event = |(step, line): (&Step, &str)| {
         let reason = step.result.as_ref().err().map_or("", |refused| refused.reason.as_str());
@@ -298,7 +309,9 @@ fn security_wanted(played: &Played, step: &Step) -> String {
 }
 
 fn pieces_of(records: &[Record]) -> Vec<String> {
-    fields_of(records, "piece", "event day isin position long member counterparty quantity manner cents")
+    let columns =
+        "event day isin position long member member_kind counterparty counterparty_kind quantity manner cents";
+    fields_of(records, "piece", columns)
 }
 
 fn pieces_wanted(played: &Played) -> Vec<String> {
@@ -312,19 +325,9 @@ fn pieces_wanted(played: &Played) -> Vec<String> {
         let pieces = step.result.iter().flat_map(|done| &done.pieces);
         rows.extend(pieces.map(|piece| {
             let [short, long] = [piece.short, piece.long].map(|number| played.position(number));
-            format!(
-                "{} {} {} {} {} {} {} {} {} {}",
-                step.number,
-                step.day,
-                isin(played, short.security),
-                piece.short,
-                piece.long,
-                short.member,
-                long.member,
-                piece.quantity,
-                manner,
-                piece.cents
-            )
+            let of_event = format!("{} {} {}", step.number, step.day, isin(played, short.security));
+            let [from, to] = [short, long].map(|position| format!("{} {}", position.member, kind_name(position.kind)));
+            format!("{of_event} {} {} {from} {to} {} {manner} {}", piece.short, piece.long, piece.quantity, piece.cents)
         }));
     }
     rows
@@ -335,7 +338,7 @@ fn isin(played: &Played, security: usize) -> String {
 }
 
 fn positions_of(records: &[Record]) -> Vec<String> {
-    fields_of(records, "position", "position security isin delivery_day reference_price day kind")
+    fields_of(records, "position", "position member_kind security isin delivery_day reference_price day kind")
 }
 
 fn positions_wanted(played: &Played) -> Vec<String> {
@@ -343,7 +346,8 @@ fn positions_wanted(played: &Played) -> Vec<String> {
         let [security, made] = [position.security + 1, usize::from(position.delivery_day) - 2];
         let isin = isin(played, position.security);
         let price = position.reference_price;
-        format!("{number} {security} {isin} {} {price} {made} close", position.delivery_day)
+        let kind = kind_name(position.kind);
+        format!("{number} {kind} {security} {isin} {} {price} {made} close", position.delivery_day)
     };
     played.book.positions().iter().zip(1..).map(position).collect()
 }

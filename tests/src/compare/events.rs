@@ -15,6 +15,7 @@ pub fn exhaustive(tests: &mut Tests) {
     tests.check("files: none, few and the most events", &[0, 5], counts_of_events);
     tests.check("files: each kind byte", &[0, 6], each_kind_byte);
     tests.check("files: each value of each body byte of each kind", &[0, 7], each_value_of_each_body_byte);
+    tests.check("files: the bytes of two kinds, in an event of each kind", &[0, 7], bytes_of_two_kinds);
     tests.check("files: no spare byte set, among trades", &[0], no_spare_byte);
     tests.check("files: each bit of a body of each kind, among trades", &[0, 7], each_bit_of_each_kind);
     tests.check("files: each bit of a body of no kind, among trades", &[6], each_bit_of_no_kind);
@@ -85,6 +86,18 @@ fn body_byte(check: &mut Check, random: &mut Random, kind: u8, at: usize, value:
     let mut body = random_event(random, kind).body();
     body[at] = value;
     read(check, &file_of_bodies(&[(kind, body)]));
+}
+
+/// Bytes 12 and 13 are the kinds of a trade's sides, whatever they are, and spare in every other event.
+fn bytes_of_two_kinds(check: &mut Check) {
+    let values = [0, 1, 2, 7, 128, 255];
+    let pairs = values.into_iter().flat_map(|first| values.map(|second| [first, second]));
+    let bodies = (1..=9).flat_map(|kind| [(kind, [0; WIDTH]), (kind, full(kind))]);
+    for (bytes, (kind, mut body)) in pairs.flat_map(|bytes| bodies.clone().map(move |body| (bytes, body))) {
+        [body[12], body[13]] = bytes;
+        let refusal = if kind == 1 || bytes == [0, 0] { 0 } else { 7 };
+        among_full_trades(check, (kind, body), refusal);
+    }
 }
 
 fn no_spare_byte(check: &mut Check) {
@@ -338,7 +351,7 @@ fn copy(check: &mut Check, random: &mut Random, file: &[u8], size: usize) {
 /// The body bytes that are a field of the kind; all others are spare.
 fn used(kind: u8) -> &'static [usize] {
     match kind {
-        1 => &[0, 1, 2, 3, 4, 5, 6, 7, 8, 9, 10, 11],
+        1 => &[0, 1, 2, 3, 4, 5, 6, 7, 8, 9, 10, 11, 12, 13],
         2 => &[0, 1, 8, 9, 10, 11],
         3 => &[0, 1, 4, 5, 6, 7],
         5 => &[0, 1, 2, 4, 5, 6, 7, 8, 9, 10, 11],

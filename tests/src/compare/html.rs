@@ -4,13 +4,13 @@
 mod figures;
 mod mentions;
 
-use super::{hex, same};
+use super::{hex, kind_name, same};
 use crate::check::{Check, Round, Tests};
 use crate::xml::{self, Element};
 use fails_book_tests::histories::{self, registers::with_classes};
 use fails_book_tests::random::Random;
 use second::book::{Book, Side, MOST_TRADES, SHEET_PLACES};
-use second::events::{file_of, Event, MOST_EVENTS};
+use second::events::{file_of, Event, Party, MOST_EVENTS};
 use second::register::bytes_of;
 use second::transcript;
 use std::collections::BTreeSet;
@@ -18,8 +18,11 @@ use tools::check::Source;
 use tools::html::{self, escaped};
 use tools::played::Played;
 
-const EXAMPLES: [&str; 2] =
-    [include_str!("../../../examples/example.txt"), include_str!("../../../examples/squeeze.txt")];
+const EXAMPLES: [&str; 3] = [
+    include_str!("../../../examples/example.txt"),
+    include_str!("../../../examples/squeeze.txt"),
+    include_str!("../../../examples/kinds.txt"),
+];
 
 const HISTORIES: usize = 300;
 const LONG_HISTORIES: usize = 4;
@@ -52,6 +55,7 @@ pub fn exhaustive(tests: &mut Tests) {
         }
     });
     tests.check("html: the latest price of each security, with its day", &[], latest_prices);
+    tests.check("html: the kinds of the example", &[], kinds);
     tests.check("html: each byte and each sign, escaped", &[], escaped_signs);
     tests.check("html: names that would be markup", &[], names);
     tests.check("html: ISINs that would be markup", &[], isins);
@@ -92,10 +96,44 @@ fn check_source(check: &mut Check, input: impl Fn() -> String, source: &Result<S
     let found = source.as_ref().map_err(String::clone).and_then(|source| {
         let (lines, page) = page("a name", source)?;
         fault(&lines, &page).map_or(Ok(()), Err)?;
+        holders_shown(&page, &holders(&source.bytes))?;
         pictured(&page).map(|pictured| (pictured, fails(&source.bytes)))
     });
     let is_good = matches!(&found, Ok((pictured, fails)) if pictured == fails);
     same(check, || format!("{}: {found:?}", input()), is_good, true);
+}
+
+/// Whose the positions of an input are, by number, as `member 1 own`.
+fn holders(input: &[u8]) -> Vec<String> {
+    let Ok((mut book, events)) = transcript::open(input) else {
+        return Vec::new();
+    };
+    for event in &events {
+        // A refused call changes nothing.
+        let _ = book.call(event, SHEET_PLACES);
+    }
+    book.positions().iter().map(|held| format!("member {} {}", held.member, kind_name(held.kind))).collect()
+}
+
+/// Wants each position's row to name its holder, and each head and caption that refers to it too.
+fn holders_shown(page: &str, holders: &[String]) -> Result<(), String> {
+    let root = xml::read(page)?;
+    let all = root.all();
+    for (holder, number) in holders.iter().zip(1..) {
+        let row = all.iter().find(|element| element.attribute("id") == Some(&format!("s{number}")));
+        let cells: Vec<String> = row.map_or_else(Vec::new, |row| row.children().map(Element::text).collect());
+        let shown = cells.get(2..4).map(|cells| format!("member {}", cells.join(" ")));
+        if shown.as_ref() != Some(holder) {
+            return Err(format!("position {number} is {holder}'s, and its row has {shown:?}"));
+        }
+    }
+    let link = |element: &Element| -> Option<usize> { element.attribute("href")?.strip_prefix("#s")?.parse().ok() };
+    let names_holder = |element: &&&Element| {
+        let number = element.all().into_iter().find_map(link);
+        number.is_none_or(|number| holders.get(number - 1).is_some_and(|holder| element.text().contains(holder)))
+    };
+    let mut heads = all.iter().filter(|element| ["th", "caption"].contains(&element.name.as_str()));
+    heads.find(|head| !names_holder(head)).map_or(Ok(()), |head| Err(format!("another holder: {}", head.text())))
 }
 
 /// The shorts that have a picture.
@@ -253,6 +291,26 @@ fn latest_prices(check: &mut Check) {
     same(check, || text.to_string(), notes, Ok(wanted.map(str::to_string).to_vec()));
 }
 
+/// What the page of the example says of kinds, as far as it stands in no row of a position.
+fn kinds(check: &mut Check) {
+    let page = Source::of_text(EXAMPLES[2].as_bytes()).and_then(|source| page("a name", &source));
+    let text = page.and_then(|(_, page)| xml::read(&page)).map(|root| root.text()).unwrap_or_else(|wrong| wrong);
+    let said = [
+        "trade: member 1 own sells 100 units of security 1 at 1,000 to member 2 own",
+        "trade: member 1 own sells 20 units of security 1 at 1,050 to member 1 client",
+        "refused: seller is buyer, both sides client",
+        "refused: the buyer's kind is 7, not own or client",
+        "80 units from position 1 (member 1 own) to position 3 (member 1 client)",
+        "Fail of position 5: member 2 client short 60 units",
+        "short 5, member 2 client",
+        "→ long 4, member 2 own",
+        "auction on short 5 (member 2 client, security 1)",
+    ];
+    for words in said {
+        same(check, || format!("{words:?} in {text}"), text.contains(words), true);
+    }
+}
+
 fn escaped_signs(check: &mut Check) {
     let bytes = (0..=255).map(|byte: u8| vec![byte]);
     let signs = (0..=0x2_0000).filter_map(char::from_u32).map(|sign| sign.to_string().into_bytes());
@@ -394,8 +452,8 @@ fn largest(check: &mut Check) {
 fn fined_at_changing_prices(random: &mut Random) -> Vec<u8> {
     let trade = |at: u16| Event::Trade {
         security: 1 + at % 8,
-        seller: 1 + (at / 8 % 62) as u8,
-        buyer: 63,
+        seller: Party::own(1 + (at / 8 % 62) as u8),
+        buyer: Party::own(63),
         quantity: 1_000_000,
         price: 1_000,
     };

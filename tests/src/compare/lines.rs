@@ -5,7 +5,7 @@ use crate::check::{Check, Round, Tests};
 use crate::probe;
 use fails_book_tests::histories;
 use fails_book_tests::random::Random;
-use second::events::{file_of, Event};
+use second::events::{file_of, Event, Party};
 use second::transcript;
 
 /// A page with fewer bytes takes no line.
@@ -19,7 +19,7 @@ const MARGIN: usize = 40;
 const MANY_PIECES: usize = 400;
 
 pub fn exhaustive(tests: &mut Tests) {
-    tests.check("lines: known events on pages of each size", &[0, 11, 19, 32], known_events);
+    tests.check("lines: known events on pages of each size", &[0, 11, 14, 19, 32, 33], known_events);
     tests.check("lines: input cut off at each byte", &[0, 1, 5], |check| {
         let whole = input(1, &example());
         for length in 0..=whole.len() {
@@ -60,7 +60,16 @@ fn known_events(check: &mut Check) {
     let confirm = "e 18 0 30\np 1 2 30 0\n";
     let without_prices: Vec<Event> = squeeze().into_iter().filter(|event| event.kind() != 2).collect();
     let on_old_price = [&squeeze()[..21], &[Event::Cash { short: 1 }]].concat();
+    let with_itself = |kinds: [u8; 2]| {
+        let [seller, buyer] = kinds.map(|kind| Party { member: 1, kind });
+        Event::Trade { security: 1, seller, buyer, quantity: 100, price: 1_000 }
+    };
+    let across_kinds = [&[with_itself([0, 1])], &example()[1..]].concat();
     for size in SIZES {
+        known(check, &input(1, &[with_itself([7, 7])]), size, "e 1 14 0\n");
+        known(check, &input(1, &[with_itself([7, 8])]), size, "e 1 33 0\n");
+        known(check, &input(1, &across_kinds[..1]), size, "e 1 0 100\n");
+        known(check, &input(1, &across_kinds), size, "e 4 0 100\np 1 2 100 0\n");
         known(check, &input(1, &example()), size, "e 4 0 100\np 1 2 100 0\n");
         known(check, &input(1, &squeeze()), size, cash);
         known(check, &input(1, &squeeze()[..18]), size, confirm);

@@ -7,6 +7,7 @@ pub mod charges;
 pub mod csv;
 pub mod events;
 pub mod html;
+pub mod kinds;
 pub mod lines;
 pub mod one_price;
 pub mod page;
@@ -22,10 +23,19 @@ pub mod walk;
 pub mod words;
 
 use crate::check::Check;
+use second::book::Business;
 use std::fmt::{self, Debug};
 
 fn hex(bytes: &[u8]) -> String {
     bytes.iter().map(|byte| format!("{byte:02x}")).collect()
+}
+
+/// As words and tables are to have it.
+fn kind_name(kind: Business) -> &'static str {
+    match kind {
+        Business::Own => "own",
+        Business::Client => "client",
+    }
 }
 
 /// Bytes that are compared as they are and shown as hex.

@@ -4,7 +4,7 @@ pub mod arguments;
 mod columns;
 mod known;
 
-pub use known::{faulty_files, faulty_registers};
+pub use known::{around_the_length, faulty_files, faulty_registers};
 
 use super::player::{example, input, shown, squeeze};
 use crate::check::{Check, Round, Tests};

@@ -146,6 +146,8 @@ fn refused_bytes() -> Vec<(Vec<u8>, u8, &'static str)> {
         ([&whole[..], &[0]].concat(), 5, "a file of 2 events has 38 bytes, and 39 follow the register"),
         (changed(20, 10), 6, "event 2: the kind is 10 and not 1 to 9"),
         (changed(21, 1), 7, "event 1: byte 0 of its body is spare in an event of kind 9, and is 1 and not 0"),
+        (changed(21 + 12, 1), 7, "event 1: byte 12 of its body is spare in an event of kind 9, and is 1 and not 0"),
+        (changed(37 + 13, 1), 7, "event 2: byte 13 of its body is spare in an event of kind 7, and is 1 and not 0"),
         (changed(37 + 15, 255), 7, "event 2: byte 15 of its body is spare in an event of kind 7, and is 255 and not 0"),
     ]
 }

@@ -4,7 +4,7 @@ use super::{hex, same};
 use crate::check::{Check, Round, Tests};
 use fails_book_tests::desk::Answer;
 use fails_book_tests::histories::{self, survey::Survey};
-use second::events::{file_of, Event};
+use second::events::{file_of, Event, Party};
 use second::register::bytes_of;
 use second::transcript;
 use std::hash::{DefaultHasher, Hash, Hasher};
@@ -13,8 +13,8 @@ use tools::player;
 
 /// What a file can meet: every refusal of register, file and call but for 8, as the player's sheets suffice, and 26, as
 /// no file has enough closes.
-const REACHABLE: [u32; 26] =
-    [0, 1, 2, 3, 4, 5, 6, 7, 9, 10, 11, 12, 13, 14, 15, 16, 17, 18, 19, 20, 21, 22, 23, 24, 25, 32];
+const REACHABLE: [u32; 27] =
+    [0, 1, 2, 3, 4, 5, 6, 7, 9, 10, 11, 12, 13, 14, 15, 16, 17, 18, 19, 20, 21, 22, 23, 24, 25, 32, 33];
 
 const HISTORIES: usize = 1_500;
 const LONG_HISTORIES: usize = 16;
@@ -54,7 +54,7 @@ pub fn seeded(round: &mut Round) {
         // No short history holds 512 trades.
         compare(check, &histories::full_book(random));
     });
-    round.check("player: long histories", &[0, 11, 15, 17, 18, 24, 32], |check, random| {
+    round.check("player: long histories", &[0, 11, 14, 15, 17, 18, 24, 32, 33], |check, random| {
         for which in 0..LONG_HISTORIES {
             let input = histories::long(random, which);
             survey.add(&input);
@@ -79,8 +79,12 @@ s 2 2 R 100 100 0 0 0
 ";
 
 pub fn example() -> Vec<Event> {
-    let trade = Event::Trade { security: 1, seller: 1, buyer: 2, quantity: 100, price: 1_000 };
-    vec![trade, Event::Close, Event::Close, Event::Delivery { short: 1, quantity: 100 }]
+    vec![own_trade(1, 2, 100, 1_000), Event::Close, Event::Close, Event::Delivery { short: 1, quantity: 100 }]
+}
+
+/// A trade in security 1 of members that trade for themselves.
+pub const fn own_trade(seller: u8, buyer: u8, quantity: u32, price: u32) -> Event {
+    Event::Trade { security: 1, seller: Party::own(seller), buyer: Party::own(buyer), quantity, price }
 }
 
 const SQUEEZE: &str = "\
@@ -126,11 +130,7 @@ pub fn squeeze() -> Vec<Event> {
     let price = Event::Price { security: 1, price: 1_100 };
     let closes = |days| vec![Event::Close; days];
     [
-        vec![
-            Event::Trade { security: 1, seller: 1, buyer: 2, quantity: 100, price: 1_000 },
-            Event::Trade { security: 1, seller: 1, buyer: 3, quantity: 50, price: 1_200 },
-            price,
-        ],
+        vec![own_trade(1, 2, 100, 1_000), own_trade(1, 3, 50, 1_200), price],
         closes(1),
         vec![delivery],
         closes(1),
@@ -153,7 +153,7 @@ pub fn squeeze() -> Vec<Event> {
 /// In class 2, which has no late fines.
 pub fn bought_in_below() -> Vec<Event> {
     [
-        vec![Event::Trade { security: 1, seller: 1, buyer: 2, quantity: 30, price: 1_200 }],
+        vec![own_trade(1, 2, 30, 1_200)],
         vec![Event::Close; 29],
         vec![
             Event::Price { security: 1, price: 1_100 },

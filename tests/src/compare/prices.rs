@@ -2,7 +2,7 @@
 //! security with the day on which it was given, as `probe` reads them.
 
 use super::page::{arguments, faulty_files, faulty_registers, Given};
-use super::player::{input, known as known_lines, squeeze};
+use super::player::{input, known as known_lines, own_trade, squeeze};
 use crate::check::{Check, Round, Tests};
 use crate::probe;
 use fails_book_tests::desk::Answer;
@@ -253,17 +253,21 @@ fn seventeenth_attempt(check: &mut Check) {
 
 const ISINS: [&str; 3] = ["XX0000000002", "XX0000000010", "XX0000000028"];
 
-/// Wants the player to answer each event with what stands beside it, and to print these lines at the end.
-pub fn answers(check: &mut Check, classes: &[u8], events: &[Answered], end: &str) {
+/// The player's input: a register of these classes, and the events.
+pub fn input_of(classes: &[u8], events: &[Answered]) -> Vec<u8> {
     let securities = classes.iter().zip(ISINS).map(|(class, isin)| format!("security {class} {isin}\n"));
     let text: String = securities.chain(events.iter().map(|(event, _)| format!("{event}\n"))).collect();
-    let input = text::read(text.as_bytes()).map(|input| input.bytes()).expect("the text has no mistake");
+    text::read(text.as_bytes()).map(|input| input.bytes()).expect("the text has no mistake")
+}
+
+/// Wants the player to answer each event with what stands beside it, and to print these lines at the end.
+pub fn answers(check: &mut Check, classes: &[u8], events: &[Answered], end: &str) {
     let each = events.iter().flat_map(|(event, lines)| {
         let times = event.strip_prefix("close ").map_or(1, |count| count.parse().expect("closes are counted"));
         std::iter::repeat_n(lines, times)
     });
     let lines: String = each.zip(1..).map(|(lines, number)| format!("e {number} {lines}\n")).collect();
-    known_lines(check, &input, lines + end);
+    known_lines(check, &input_of(classes, events), lines + end);
 }
 
 /// The numbers of so many securities, and numbers that none of them has: 0, the next one, 257 and 65,535.
@@ -368,7 +372,7 @@ fn known_prices(check: &mut Check) {
         // What is refused leaves the price as it was, and so does a trade.
         (vec![price(1, 0), price(1, GREATEST_PRICE + 1), price(2, 1), price(0, 1)], 0),
         (vec![price(1, 1_000), Event::Close, price(1, 0), price(2, 1), price(257, 1)], packed(1_000, 1)),
-        (vec![Event::Trade { security: 1, seller: 1, buyer: 2, quantity: 1, price: 1_000 }, Event::Close], 0),
+        (vec![own_trade(1, 2, 1, 1_000), Event::Close], 0),
     ];
     for (events, wanted) in cases {
         let given = Given::parted(&input(1, &events));

@@ -1,12 +1,12 @@
 //! What no file reaches: sheets that are too short or longer than the player's, and the last business days.
 
 use super::hex;
-use super::player::input;
+use super::player::{input, own_trade};
 use crate::check::{Check, Round, Tests};
 use crate::probe;
 use fails_book_tests::desk::Answer;
 use fails_book_tests::histories;
-use second::events::Event;
+use second::events::{Event, Party};
 use second::transcript;
 
 const SHEETS: [u32; 6] = [0, 1, 1_023, 1_024, 1_025, 65_536];
@@ -14,12 +14,13 @@ const SHEETS: [u32; 6] = [0, 1, 1_023, 1_024, 1_025, 65_536];
 /// After 9,998 closes it is day 9,999; further ones are refused.
 const CLOSES: [u32; 4] = [9_997, 9_998, 9_999, 20_000];
 
-const TRADE: Event = Event::Trade { security: 1, seller: 1, buyer: 2, quantity: 100, price: 1_000 };
+const TRADE: Event = own_trade(1, 2, 100, 1_000);
 const DELIVERY: Event = Event::Delivery { short: 1, quantity: 60 };
 const PRICE: Event = Event::Price { security: 1, price: 1_100 };
 
 pub fn exhaustive(tests: &mut Tests) {
     tests.check("sheets: a delivery and what is no discharge", &[0, 8, 11], delivery_and_what_is_no_discharge);
+    tests.check("sheets: trades of a member with itself, and what comes of them", &[0, 8, 14, 33], across_kinds);
     tests.check("sheets: day 9,999", &[0, 17, 26], last_business_day);
     tests.check("sheets: buy-in and cash settlement on day 9,999", &[0, 8, 18, 26], last_buy_in_and_cash_settlement);
     tests.check("sheets: prices of days 9,998 and 9,999", &[0, 8, 32], prices_of_the_last_days);
@@ -65,6 +66,24 @@ fn delivery_and_what_is_no_discharge(check: &mut Check) {
         known(check, &[Event::Close], 0, sheet, Answer::accepted(0));
         known(check, &[Event::Attempt { short: 1 }], 0, sheet, Answer::refused(11));
         known(check, &[], 0, sheet, Answer::accepted(0));
+    }
+}
+
+fn across_kinds(check: &mut Check) {
+    let trade = |kinds: [u8; 2]| {
+        let [seller, buyer] = kinds.map(|kind| Party { member: 1, kind });
+        Event::Trade { security: 1, seller, buyer, quantity: 100, price: 1_000 }
+    };
+    for sheet in SHEETS {
+        let if_enough = |quantity| if sheet >= 1_024 { Answer::accepted(quantity) } else { Answer::refused(8) };
+        known(check, &[trade([0, 1])], 0, sheet, Answer::accepted(100));
+        known(check, &[trade([1, 1])], 0, sheet, Answer::refused(14));
+        known(check, &[trade([255, 255])], 0, sheet, Answer::refused(14));
+        known(check, &[trade([0, 2])], 0, sheet, Answer::refused(33));
+        // From own to client position 1 is the short, and from client to own position 2.
+        let closed = |kinds, days, step| [vec![trade(kinds)], vec![Event::Close; days], vec![PRICE, step]].concat();
+        known(check, &closed([0, 1], 2, DELIVERY), 0, sheet, if_enough(60));
+        known(check, &closed([1, 0], 10, Event::Cash { short: 2 }), 0, sheet, if_enough(100));
     }
 }
 

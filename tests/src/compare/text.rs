@@ -1,9 +1,12 @@
 //! The player's input as text: the examples for people, and known and random inputs.
 
+use super::player::input;
 use super::{hex, same, Hex};
 use crate::check::{Check, Round, Tests};
 use fails_book_tests::histories::{self, random_event};
 use fails_book_tests::random::Random;
+use second::book::Business;
+use second::events::{file_of, Event, Party};
 use second::register::Security;
 use second::transcript;
 use tools::player;
@@ -30,18 +33,25 @@ const SQUEEZE: Example = Example {
     output: include_str!("../../../examples/squeeze.out"),
 };
 
+const KINDS: Example = Example {
+    name: "kinds",
+    text: include_str!("../../../examples/kinds.txt"),
+    binary: include_bytes!("../../../examples/kinds.bin"),
+    output: include_str!("../../../examples/kinds.out"),
+};
+
 /// A register of one security, as a line.
 const SECURITY: &str = "security 1 XX0000000002\n";
 
 pub fn exhaustive(tests: &mut Tests) {
     tests.check("text: the examples in both forms", &[], |check| {
-        for Example { name, text, binary: bytes, .. } in [EXAMPLE, SQUEEZE] {
+        for Example { name, text, binary: bytes, .. } in [EXAMPLE, SQUEEZE, KINDS] {
             same(check, || format!("{name}.txt"), binary(text), Ok(Hex(bytes.to_vec())));
             same(check, || format!("{name}.bin"), again(bytes), Ok(Hex(bytes.to_vec())));
         }
     });
     tests.check("text: the player's output on the examples", &[], |check| {
-        for Example { name, binary, output, .. } in [EXAMPLE, SQUEEZE] {
+        for Example { name, binary, output, .. } in [EXAMPLE, SQUEEZE, KINDS] {
             let player = player::play(binary);
             let player = player.map_or_else(|error| error.to_string(), readable);
             let second = readable(transcript::transcript(binary));
@@ -54,6 +64,8 @@ pub fn exhaustive(tests: &mut Tests) {
             same(check, || spelling.to_string(), written(spelling), Ok(plain.to_string()));
         }
     });
+    tests.check("text: known kinds of both sides", &[], known_kinds);
+    tests.check("text: each byte of a kind, on either side", &[], each_kind_byte);
     tests.check("text: bad texts", &[], bad_texts);
     tests.check("text: the largest number of each field", &[], largest_numbers);
     tests.check("text: the most securities and events", &[], most_of_all);
@@ -86,15 +98,28 @@ fn most_of_all(check: &mut Check) {
 
 fn random_inputs(check: &mut Check, random: &mut Random) {
     let mut kinds = [0; 9];
+    let [mut with_kind, mut without_kind] = [0, 0];
     for _ in 0..3_000 {
         let [securities, events] = [random.between(1, 40), random.below(64)];
         let input = random_input(random, securities, events);
         input.events.iter().for_each(|event| kinds[usize::from(event.kind()) - 1] += 1);
+        with_kind += input.events.iter().filter(|event| has_kinds(event, Some(Business::Client))).count() as u64;
+        without_kind += input.events.iter().filter(|event| has_kinds(event, None)).count() as u64;
         let bytes = input.bytes();
         same(check, || hex(&bytes), again(&bytes), Ok(Hex(bytes.clone())));
     }
     for (times, kind) in kinds.into_iter().zip(1..) {
         check.reached(&format!("an event of kind {kind}"), times);
+    }
+    check.reached("a trade of two clients", with_kind);
+    check.reached("a trade of two bytes that are no kinds", without_kind);
+}
+
+/// Whether both sides of a trade have this kind, or none.
+fn has_kinds(event: &Event, kind: Option<Business>) -> bool {
+    match event {
+        Event::Trade { seller, buyer, .. } => [seller, buyer].iter().all(|party| Business::of(party.kind) == kind),
+        _ => false,
     }
 }
 
@@ -120,7 +145,7 @@ fn damaged_inputs(check: &mut Check, random: &mut Random) {
 }
 
 /// A spelling and the text that is written for it.
-const SPELLINGS: [(&str, &str); 6] = [
+const SPELLINGS: [(&str, &str); 12] = [
     ("# none\n\n security\t1  XX0000000002 # a share\r\n#\n", "security 1 XX0000000002\n"),
     ("security 0 XX0000000002\nsecurity 255 ############ #\n", "security 0 XX0000000002\nsecurity 255 ############\n"),
     ("security 1 #X0000#00002 #\n", "security 1 #X0000#00002\n"),
@@ -133,10 +158,52 @@ const SPELLINGS: [(&str, &str); 6] = [
         "security 1 XX0000000002\nclose\nclose\nclose\nclose\nclose\n",
     ),
     ("security 1 XX0000000002\ntrade 001 2 0 0 0", "security 1 XX0000000002\ntrade 1 2 0 0 0\n"),
+    // Kinds are written only where one of them is not own.
+    ("security 1 XX0000000002\ntrade 1 own 2 own 3 4 5", "security 1 XX0000000002\ntrade 1 2 3 4 5\n"),
+    ("security 1 XX0000000002\ntrade 1 kind 0 2 3 4 5", "security 1 XX0000000002\ntrade 1 2 3 4 5\n"),
+    ("security 1 XX0000000002\ntrade 1 client 2 3 4 5", "security 1 XX0000000002\ntrade 1 client 2 own 3 4 5\n"),
+    ("security 1 XX0000000002\ntrade 1 2 client 3 4 5", "security 1 XX0000000002\ntrade 1 own 2 client 3 4 5\n"),
+    (
+        "security 1 XX0000000002\ntrade 1 own 1 kind 1 3 4 5 # itself\n",
+        "security 1 XX0000000002\ntrade 1 own 1 client 3 4 5\n",
+    ),
+    ("security 1 XX0000000002\ntrade 1 kind 007 2 3 4 5", "security 1 XX0000000002\ntrade 1 kind 7 2 own 3 4 5\n"),
 ];
 
+/// What stands after seller 1 and after buyer 2, and bytes 12 and 13.
+const KIND_BYTES: [(&str, &str, [u8; 2]); 8] = [
+    ("", "", [0, 0]),
+    (" own", " own", [0, 0]),
+    (" client", "", [1, 0]),
+    ("", " client", [0, 1]),
+    (" client", " client", [1, 1]),
+    (" kind 2", " kind 1", [2, 1]),
+    (" kind 0", " kind 255", [0, 255]),
+    (" kind 128", " own", [128, 0]),
+];
+
+fn known_kinds(check: &mut Check) {
+    for (seller, buyer, kinds) in KIND_BYTES {
+        let line = format!("trade 1{seller} 2{buyer} 3 4 5");
+        let body = [3, 0, 1, 2, 4, 0, 0, 0, 5, 0, 0, 0, kinds[0], kinds[1], 0, 0];
+        let found = text::read(format!("{SECURITY}{line}\n").as_bytes()).map(|input| Hex(file_of(&input.events)));
+        let wanted = Hex([&[1, 0, 16, 0, 1], &body[..]].concat());
+        same(check, || line.clone(), found, Ok(wanted));
+    }
+}
+
+/// Each byte on each side, there and back.
+fn each_kind_byte(check: &mut Check) {
+    let sides = (0..=u8::MAX).flat_map(|kind| [[kind, 0], [0, kind], [kind, 1], [kind, kind]]);
+    for sides in sides {
+        let [seller, buyer] = sides.map(|kind| Party { member: 9, kind });
+        let bytes = input(1, &[Event::Trade { security: 1, seller, buyer, quantity: 1, price: 1 }]);
+        same(check, || format!("{sides:?}"), again(&bytes), Ok(Hex(bytes.clone())));
+    }
+}
+
 /// Lines after a register of one security, and what is wrong with the last of them.
-const BAD_EVENTS: [(&str, &str); 26] = [
+const BAD_EVENTS: [(&str, &str); 36] = [
     ("sell 1 2 1 100 1000", "line 2: unknown word \"sell\""),
     ("\n# none\nTrade 1 2 1 100 1000", "line 4: unknown word \"Trade\""),
     (
@@ -144,6 +211,28 @@ const BAD_EVENTS: [(&str, &str); 26] = [
         "line 3: trade takes 5 numbers (seller, buyer, security, quantity, price), and 4 are there",
     ),
     ("trade", "line 2: trade takes 5 numbers (seller, buyer, security, quantity, price), and none is there"),
+    (
+        "trade 1 client 2 own 1 100",
+        "line 2: trade takes 5 numbers (seller, buyer, security, quantity, price), and 4 are there",
+    ),
+    (
+        "trade 1 Client 2 1 100 1000",
+        "line 2: trade takes 5 numbers (seller, buyer, security, quantity, price), and 6 are there",
+    ),
+    ("trade own 1 2 1 100 1000", "line 2: a kind stands directly after the seller or the buyer, and \"own\" does not"),
+    (
+        "trade 1 own client 2 1 100 1000",
+        "line 2: a kind stands directly after the seller or the buyer, and \"client\" does not",
+    ),
+    (
+        "trade 1 2 1 kind 7 100 1000",
+        "line 2: a kind stands directly after the seller or the buyer, and \"kind\" does not",
+    ),
+    ("trade 1 kind", "line 2: the seller's kind has no number after the word kind"),
+    ("trade 1 2 kind", "line 2: the buyer's kind has no number after the word kind"),
+    ("trade 1 kind client 2 1 100 1000", "line 2: the seller's kind is no number: \"client\""),
+    ("trade 1 2 kind 256 1 100 1000", "line 2: the buyer's kind is too large: 256, and its field holds at most 255"),
+    ("offer 1 4 client 40 1000", "line 2: offer takes 4 numbers (position, offerer, quantity, price), and 5 are there"),
     ("price 1", "line 2: price takes 2 numbers (security, price), and 1 is there"),
     ("delivery 1 2 3", "line 2: delivery takes 2 numbers (position, quantity), and 3 are there"),
     ("attempt # 1", "line 2: attempt takes 1 number (position), and none is there"),
@@ -249,7 +338,8 @@ fn bytes_without_text(check: &mut Check) {
         (14, 0x80, "security 1: the ISIN is not 12 ASCII signs without blanks"),
         (20, 0, "event 2: the kind is 0 and not 1 to 9"),
         (22, 10, "event 4: the kind is 10 and not 1 to 9"),
-        (23 + 12, 1, "event 1: a spare byte is not zero"),
+        (23 + 14, 1, "event 1: a spare byte is not zero"),
+        (23 + 16 + 12, 1, "event 2: a spare byte is not zero"),
     ];
     for (at, byte, message) in changes {
         let mut bytes = whole.to_vec();
@@ -324,17 +414,25 @@ fn respelled(random: &mut Random, plain: &str) -> String {
     spelling
 }
 
+/// The digits with the sign before each group of three.
+fn number_with(digits: &str, sign: &str) -> String {
+    let mut spelling = String::new();
+    for (at, digit) in digits.chars().enumerate() {
+        if at > 0 && (digits.len() - at) % 3 == 0 {
+            spelling += sign;
+        }
+        spelling.push(digit);
+    }
+    spelling
+}
+
 /// The numbers, some with group signs, with any blanks between them.
 fn regrouped(random: &mut Random, numbers: &str) -> String {
     let mut spelling = String::new();
     for number in numbers.split(' ') {
-        let sign = random.pick(&["", "_", ","]);
-        for (at, digit) in number.chars().enumerate() {
-            if at > 0 && (number.len() - at) % 3 == 0 {
-                spelling += sign;
-            }
-            spelling.push(digit);
-        }
+        // The word of a kind has no other spelling.
+        let signs = if number.starts_with(char::is_numeric) { ["", "_", ","] } else { [""; 3] };
+        spelling += &number_with(number, random.pick(&signs));
         spelling += random.pick(&[" ", "  ", "\t"]);
     }
     spelling

@@ -1,7 +1,7 @@
 //! The walk both ways: its text on the examples, its figures on histories, and what it says of lines that do not meet.
 
 use super::player::shown;
-use super::same;
+use super::{kind_name, same};
 use crate::check::{Check, Round, Tests};
 use fails_book_tests::histories;
 use fails_book_tests::random::Random;
@@ -72,7 +72,7 @@ fn changed(text: &str, changes: &[(&str, &str)]) -> Result<String, String> {
 }
 
 /// Events on one security, and their walk.
-const LITTLE: [(&str, &str); 2] = [
+const LITTLE: [(&str, &str); 3] = [
     (
         "",
         "forward, from each short to its longs:\nnone\n\nback, from each long to its shorts:\nnone\n\n\
@@ -83,12 +83,29 @@ const LITTLE: [(&str, &str); 2] = [
     (
         "trade 1 2 1 1 1000\nclose\n",
         "forward, from each short to its longs:\n\
-         short 1: member 1, security 1 (XX0000000002), delivery day 3, no pieces, 1 open\n\n\
+         short 1: member 1 own, security 1 (XX0000000002), delivery day 3, no pieces, 1 open\n\n\
          back, from each long to its shorts:\n\
-         long 2: member 2, security 1 (XX0000000002), delivery day 3, no pieces, 1 open\n\n\
+         long 2: member 2 own, security 1 (XX0000000002), delivery day 3, no pieces, 1 open\n\n\
          side by side, for each pair:\n short  long  units forward  units back  cents forward  cents back\n\
          in all                    0           0              0           0\n\
          both walks meet: 0 pairs, 0 units, 0 cents\n",
+    ),
+    (
+        "trade 1 client 1 1 3 1000\nclose 2\ndelivery 2 2\n",
+        "forward, from each short to its longs:\n\
+         short 2: member 1 client, security 1 (XX0000000002), delivery day 3, 3 units netted\n  \
+           day  event  manner     units  long  member  kind  cents  left open\n    \
+           3      4  delivered      2     1       1   own                 1\n  \
+           2 delivered, 0 bought in, 0 in cash for 0 cents\n\n\
+         back, from each long to its shorts:\n\
+         long 1: member 1 own, security 1 (XX0000000002), delivery day 3, 3 units netted\n  \
+           day  event  manner     units  short  member    kind  cents  left open\n    \
+           3      4  delivered      2      2       1  client                 1\n  \
+           2 delivered, 0 bought in, 0 in cash for 0 cents\n\n\
+         side by side, for each pair:\n short  long  units forward  units back  cents forward  cents back\n     \
+              2     1              2           2              0           0  equal\n\
+         in all                    2           2              0           0\n\
+         both walks meet: 1 pair, 2 units, 0 cents\n",
     ),
 ];
 
@@ -192,8 +209,9 @@ struct Row {
     manner: &'static str,
     short: u64,
     long: u64,
-    /// The member of the position that the walk comes to.
+    /// The member and the kind of the position that the walk comes to.
     member: u64,
+    kind: &'static str,
     units: u64,
     cents: u64,
     open: u64,
@@ -205,7 +223,7 @@ struct Figures {
     /// In the order of the events.
     forward: Vec<Row>,
     back: Vec<Row>,
-    /// By number: side, member, security, ISIN and delivery day, in words.
+    /// By number: side, member, kind, security, ISIN and delivery day, in words.
     headings: BTreeMap<u64, String>,
     /// By number: netted, delivered, bought in, cash, open, and the cents of the pieces.
     positions: BTreeMap<u64, [u64; 6]>,
@@ -258,10 +276,10 @@ impl Reader {
         match *words {
             [] | ["day" | "forward" | "back" | "side" | "none", ..] | ["short", "long", ..] => {}
             ["both", "walks", "meet:", ..] => figures.last = line.to_string(),
-            [side, number, "member", member, "security", security, isin, "delivery", "day", day, ref end @ ..] => {
+            [side, number, "member", member, kind, "security", security, isin, "delivery", "day", day, ref end @ ..] => {
                 self.side = if side == "short" { Side::Short } else { Side::Long };
                 self.number = number.strip_suffix(':')?.parse().ok()?;
-                figures.headings.insert(self.number, [side, member, security, isin, day].join(" "));
+                figures.headings.insert(self.number, [side, member, kind, security, isin, day].join(" "));
                 self.units(figures, end)?;
             }
             [delivered, "delivered", bought_in, "bought-in", cash, "in", "cash", "for", cents, _] => {
@@ -273,13 +291,13 @@ impl Reader {
                 let [short, long] = numbers([short, long])?;
                 figures.pairs.insert((short, long), numbers([a, b, c, d])?);
             }
-            [day, event, manner, units, other, member, ref end @ ..] => {
+            [day, event, manner, units, other, member, kind, ref end @ ..] => {
                 let (cents, open) = match *end {
                     [open] if manner != "cash" => ("0", open),
                     [cents, open] if manner == "cash" => (cents, open),
                     _ => return None,
                 };
-                self.piece(figures, manner, numbers([day, event, units, other, member, cents, open])?)?;
+                self.piece(figures, [manner, kind], numbers([day, event, units, other, member, cents, open])?)?;
             }
             _ => return None,
         }
@@ -298,14 +316,15 @@ impl Reader {
         Some(())
     }
 
-    fn piece(&mut self, figures: &mut Figures, manner: &str, numbers: [u64; 7]) -> Option<()> {
+    fn piece(&mut self, figures: &mut Figures, [manner, kind]: [&str; 2], numbers: [u64; 7]) -> Option<()> {
         let [day, event, units, other, member, cents, open] = numbers;
         let manner = ["delivered", "bought-in", "cash"].into_iter().find(|&name| name == manner)?;
+        let kind = ["own", "client"].into_iter().find(|&name| name == kind)?;
         let (rows, short, long) = match self.side {
             Side::Short => (&mut figures.forward, self.number, other),
             Side::Long => (&mut figures.back, other, self.number),
         };
-        rows.push(Row { event, day, manner, short, long, member, units, cents, open });
+        rows.push(Row { event, day, manner, short, long, member, kind, units, cents, open });
         self.open = open;
         Some(())
     }
@@ -353,7 +372,7 @@ fn headings(register: &[Security], book: &Book) -> BTreeMap<u64, String> {
         let &Position { member, security, side, delivery_day, .. } = position;
         let side = if side == Side::Short { "short" } else { "long" };
         let isin = String::from_utf8_lossy(&register[security].1);
-        format!("{side} {member} {} ({isin}) {delivery_day}", security + 1)
+        format!("{side} {member} {} {} ({isin}) {delivery_day}", kind_name(position.kind), security + 1)
     };
     (1..).zip(book.positions().iter().map(heading)).collect()
 }
@@ -380,8 +399,9 @@ impl Figures {
         for (rows, from, to) in ways {
             let left = &mut open[from as usize - 1];
             *left -= units;
-            let member = u64::from(book.positions()[to as usize - 1].member);
-            rows.push(Row { event, day, manner, short, long, member, units, cents, open: *left });
+            let other = &book.positions()[to as usize - 1];
+            let (member, kind) = (u64::from(other.member), kind_name(other.kind));
+            rows.push(Row { event, day, manner, short, long, member, kind, units, cents, open: *left });
             self.positions.entry(from).or_default()[5] += cents;
         }
         for sums in [self.pairs.entry((short, long)).or_default(), &mut self.in_all] {

@@ -1,13 +1,13 @@
 //! A play in words: the examples, each reason for a refusal, charges that add up to the player's accounts, and outputs
 //! that are not the player's.
 
-use super::{hex, same};
+use super::{hex, kind_name, same};
 use crate::check::{Check, Round, Tests};
 use fails_book_tests::histories;
 use fails_book_tests::histories::terms::Terms;
 use fails_book_tests::random::Random;
-use second::book::{Book, Piece, SHEET_PLACES};
-use second::events::Event;
+use second::book::{Book, Business, Piece, Position, SHEET_PLACES};
+use second::events::{Event, Party};
 use second::transcript;
 use std::collections::BTreeMap;
 use tools::check::Source;
@@ -16,7 +16,7 @@ use tools::played::{Kind, Played};
 use tools::words;
 
 /// An example's name, its text, the player's output and the words.
-const EXAMPLES: [(&str, &str, &str, &str); 2] = [
+const EXAMPLES: [(&str, &str, &str, &str); 3] = [
     (
         "example",
         include_str!("../../../examples/example.txt"),
@@ -28,6 +28,12 @@ const EXAMPLES: [(&str, &str, &str, &str); 2] = [
         include_str!("../../../examples/squeeze.txt"),
         include_str!("../../../examples/squeeze.out"),
         include_str!("../../../examples/squeeze.words"),
+    ),
+    (
+        "kinds",
+        include_str!("../../../examples/kinds.txt"),
+        include_str!("../../../examples/kinds.out"),
+        include_str!("../../../examples/kinds.words"),
     ),
 ];
 
@@ -68,6 +74,7 @@ pub fn seeded(round: &mut Round) {
         }
         check.reached("an account that is charged", charged);
     });
+    round.check("words: the kind of each position and side", &[], kinds_of_histories);
     round.check("words: the terms of cash prices", &[], |check, random| {
         let [mut payments, mut of_several] = [0, 0];
         for which in 0..404 {
@@ -89,22 +96,29 @@ pub fn seeded(round: &mut Round) {
 }
 
 /// Events on a register of one security of each class, and the line of words that the last refused one gets.
-const REASONS: [(&str, &str); 40] = [
-    ("trade 0 64 1 1 1", "trade: member 0 sells 1 unit of security 1 at 1 to member 64: refused, the seller 0 is not a member from 1 to 63, and the buyer 64 is not a member from 1 to 63 (9)"),
-    ("trade 1 64 1 1 1", "trade: member 1 sells 1 unit of security 1 at 1 to member 64: refused, the buyer 64 is not a member from 1 to 63 (9)"),
-    ("trade 1 2 4 1 1", "trade: member 1 sells 1 unit of security 4 at 1 to member 2: refused, security 4 is not registered; the register has 3 securities (10)"),
+const REASONS: [(&str, &str); 47] = [
+    ("trade 0 64 1 1 1", "trade: member 0 own sells 1 unit of security 1 at 1 to member 64 own: refused, the seller 0 is not a member from 1 to 63, and the buyer 64 is not a member from 1 to 63 (9)"),
+    ("trade 1 64 1 1 1", "trade: member 1 own sells 1 unit of security 1 at 1 to member 64 own: refused, the buyer 64 is not a member from 1 to 63 (9)"),
+    ("trade 1 2 4 1 1", "trade: member 1 own sells 1 unit of security 4 at 1 to member 2 own: refused, security 4 is not registered; the register has 3 securities (10)"),
     ("price 0 1", "price of 1 for security 0: refused, security 0 is not registered; the register has 3 securities (10)"),
     ("delivery 1 1", "delivery of 1 from position 1: refused, position 1 is not there; there is none yet (11)"),
     ("trade 1 2 1 1 1\nclose\ncash 3", "cash settlement of position 3: refused, position 3 is not there; there are positions 1 to 2 (11)"),
     ("confirm 1", "confirmation of award 1: refused, award 1 is not there; none was made today (11)"),
     ("AUCTION\nconfirm 2", "confirmation of award 2: refused, award 2 is not there; today has award 1 alone (11)"),
-    ("trade 1 2 1 0 1", "trade: member 1 sells 0 units of security 1 at 1 to member 2: refused, the quantity is 0 (12)"),
-    ("trade 1 2 1 1000001 1", "trade: member 1 sells 1,000,001 units of security 1 at 1 to member 2: refused, the quantity is above 1,000,000 (12)"),
+    ("trade 1 2 1 0 1", "trade: member 1 own sells 0 units of security 1 at 1 to member 2 own: refused, the quantity is 0 (12)"),
+    ("trade 1 2 1 1000001 1", "trade: member 1 own sells 1,000,001 units of security 1 at 1 to member 2 own: refused, the quantity is above 1,000,000 (12)"),
     ("DUE\ndelivery 1 0", "delivery of 0 from position 1: refused, the quantity is 0 (12)"),
     ("price 1 0", "price of 0 for security 1: refused, the price is 0 (13)"),
     ("price 1 10000001", "price of 10,000,001 for security 1: refused, the price is above 10,000,000 (13)"),
-    ("trade 1 1 1 1 1", "trade: member 1 sells 1 unit of security 1 at 1 to member 1: refused, seller is buyer (14)"),
-    ("FULL\ntrade 1 2 1 1 1", "trade: member 1 sells 1 unit of security 1 at 1 to member 2: refused, 512 trades are held (15)"),
+    ("trade 1 1 1 1 1", "trade: member 1 own sells 1 unit of security 1 at 1 to member 1 own: refused, seller is buyer, both sides own (14)"),
+    ("trade 1 client 1 client 1 1 1", "trade: member 1 client sells 1 unit of security 1 at 1 to member 1 client: refused, seller is buyer, both sides client (14)"),
+    ("trade 1 kind 7 1 kind 7 1 1 1", "trade: member 1 kind 7 sells 1 unit of security 1 at 1 to member 1 kind 7: refused, seller is buyer, both sides kind 7 (14)"),
+    ("trade 1 kind 7 1 kind 8 1 1 1", "trade: member 1 kind 7 sells 1 unit of security 1 at 1 to member 1 kind 8: refused, the seller's kind is 7, not own or client, and the buyer's kind is 8, not own or client (33)"),
+    ("trade 1 kind 2 2 1 1 1", "trade: member 1 kind 2 sells 1 unit of security 1 at 1 to member 2 own: refused, the seller's kind is 2, not own or client (33)"),
+    ("trade 1 client 2 kind 255 1 1 1", "trade: member 1 client sells 1 unit of security 1 at 1 to member 2 kind 255: refused, the buyer's kind is 255, not own or client (33)"),
+    ("FULL\ntrade 1 client 2 1 1 1", "trade: member 1 client sells 1 unit of security 1 at 1 to member 2 own: refused, 512 trades are held (15)"),
+    ("FULL\ntrade 1 2 kind 2 1 1 1", "trade: member 1 own sells 1 unit of security 1 at 1 to member 2 kind 2: refused, the buyer's kind is 2, not own or client (33)"),
+    ("FULL\ntrade 1 2 1 1 1", "trade: member 1 own sells 1 unit of security 1 at 1 to member 2 own: refused, 512 trades are held (15)"),
     ("DUE\ndelivery 2 1", "delivery of 1 from position 2: refused, position 2 is long (16)"),
     ("trade 1 2 1 1 1\nclose\ndelivery 1 1", "delivery of 1 from position 1: refused, outside the window: the position falls due on day 3 (17)"),
     ("DUE\nattempt 1", "attempt on position 1: refused, outside the window: today is 0 days after the delivery day, 3, and an attempt is made on days 5 to 7 after it (17)"),
@@ -187,15 +201,15 @@ fn known_lines(check: &mut Check) {
     let output = Source::of_text(SINGLE_UNITS.as_bytes()).map(|source| transcript::transcript(&source.bytes));
     let words = output.and_then(|output| words_of(SINGLE_UNITS, &output)).unwrap_or_else(|wrong| wrong);
     let lines = [
-        "1. day 1, line 2: trade: member 1 sells 1 unit of security 1 at 99 to member 2: accepted",
+        "1. day 1, line 2: trade: member 1 own sells 1 unit of security 1 at 99 to member 2 own: accepted",
         "   the ceiling is 103",
         "   award 1: 1 unit of member 3 at 98",
         "35. day 30, line 8: confirmation of award 1: 1 unit bought in",
         "   buy-in difference: the house pays member 1 1 cent: 1 unit of award 1 times (its price 98 minus reference price 99 of position 1)",
         "71. day 62, line 13: cash settlement of position 3: 1 unit",
-        "   1 unit from position 3 (member 1) to position 4 (member 2) for 400 cents",
+        "   1 unit from position 3 (member 1 own) to position 4 (member 2 own) for 400 cents",
         "   cash settlement: member 1 pays member 2 400 cents: 1 unit of position 4 times 400, the highest of reference price 101 of position 3, reference price 101 of position 4 and the latest price 100 plus 300",
-        "position 3: member 1, short: 1 netted, 0 delivered, 0 bought in, 1 settled in cash, 0 open",
+        "position 3: member 1 own, short: 1 netted, 0 delivered, 0 bought in, 1 settled in cash, 0 open",
         "account  holder     buy-in difference  cash settlement  cash settlement fee  unconfirmed award  late fine  cents in all",
         "      0  the house                 -1                0               25,000                  0          0        24,999",
         "      1  member 1                   1             -400              -25,000                  0          0       -25,399",
@@ -243,6 +257,73 @@ fn known_prices(check: &mut Check) {
         let last = payments.next_back().and_then(|line| line.split_once(" cents: "));
         same(check, || text.clone(), last.map(|(_, figures)| figures), Some(said));
     }
+}
+
+fn kinds_of_histories(check: &mut Check, random: &mut Random) {
+    let mut found = Found::default();
+    for which in 0..204 {
+        let input = if which < 200 { histories::any(random) } else { histories::long(random, which) };
+        let Ok(played) = played(&Source::of_bytes(input.clone()), &transcript::transcript(&input)) else {
+            continue;
+        };
+        let wanted = holders_of(&played, &mut found);
+        same(check, || hex(&input), holders_in(&words::words(&played)), wanted);
+    }
+    check.reached("a client position", found.client_positions);
+    check.reached("a piece between two kinds", found.pieces_across);
+    check.reached("a trade with a client", found.client_trades);
+}
+
+/// What the plays of histories have of clients.
+#[derive(Default)]
+struct Found {
+    client_positions: u64,
+    pieces_across: u64,
+    client_trades: u64,
+}
+
+/// The sides and positions of a play in the order in which its words name them, each as `1 client`: of each event its
+/// sides, then the positions of its pieces and those that it makes, and at the end all positions.
+fn holders_of(played: &Played, found: &mut Found) -> Vec<String> {
+    let holder = |position: &Position| format!("{} {}", position.member, kind_name(position.kind));
+    let mut wanted = Vec::new();
+    for step in &played.steps {
+        if let Event::Trade { seller, buyer, .. } = step.event {
+            found.client_trades += u64::from([seller, buyer].iter().any(|party| *party == Party::client(party.member)));
+            wanted.extend([seller, buyer].map(side));
+        }
+        let done = step.result.as_ref().ok();
+        let pieces = done.iter().flat_map(|done| &done.pieces);
+        let ends: Vec<[&Position; 2]> =
+            pieces.map(|piece| [piece.short, piece.long].map(|number| played.position(number))).collect();
+        found.pieces_across += ends.iter().filter(|[short, long]| short.kind != long.kind).count() as u64;
+        let made = done.iter().flat_map(|done| &played.book.positions()[done.positions.clone()]);
+        wanted.extend(ends.into_iter().flatten().chain(made).map(holder));
+    }
+    let clients = played.book.positions().iter().filter(|position| position.kind == Business::Client);
+    found.client_positions += clients.count() as u64;
+    wanted.extend(played.book.positions().iter().map(holder));
+    wanted
+}
+
+/// A side of a trade, whose byte may be no kind.
+fn side(party: Party) -> String {
+    match Business::of(party.kind) {
+        Some(kind) => format!("{} {}", party.member, kind_name(kind)),
+        None => format!("{} kind {}", party.member, party.kind),
+    }
+}
+
+/// Each member that is named with a kind, with that kind, in the order of the words.
+fn holders_in(words: &str) -> Vec<String> {
+    let plain = words.replace(['(', ',', ')', ':'], "");
+    let words: Vec<&str> = plain.split_whitespace().collect();
+    let after_member = words.windows(4).filter_map(|words| match *words {
+        ["member", member, kind @ ("own" | "client"), _] => Some(format!("{member} {kind}")),
+        ["member", member, "kind", byte] => Some(format!("{member} kind {byte}")),
+        _ => None,
+    });
+    after_member.collect()
 }
 
 /// The numbers in the words of a payment of several longs in class 3: units, long, price, the short's reference price

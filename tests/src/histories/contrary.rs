@@ -1,21 +1,31 @@
 //! Events that the book should turn down, and events with fields of any value.
 
-use super::fitting::{age_of_price, number};
+use super::fitting::{age_of_price, in_other_kind, number};
 use super::History;
 use crate::random::Random;
 use second::book::{Book, Side, GREATEST_PRICE, GREATEST_QUANTITY, MEMBERS};
-use second::events::Event;
+use second::events::{Event, Party};
 use second::windows::Step;
 
 /// The refusals that depend on the state of the book.
 const BY_STATE: [u8; 13] = [14, 15, 16, 17, 18, 19, 20, 21, 22, 23, 24, 25, 32];
 
+/// With those that are aimed at where there are clients.
+const BY_STATE_AND_KIND: [u8; 16] = [14, 15, 16, 17, 18, 19, 20, 21, 22, 23, 24, 25, 32, 33, 33, 14];
+
+/// Bytes that are no kind: the first and the last of them, and others.
+const NO_KINDS: [u8; 8] = [2, 2, 3, 7, 128, 254, 255, 255];
+
 /// An event of the kind, whose fields have any value.
 pub fn random_event(random: &mut Random, kind: u8) -> Event {
     let named = random.word() as u16;
-    let [first, second] = [(); 2].map(|_| random.byte());
+    let parties = [(); 2].map(|_| {
+        // Bytes that are kinds are to be frequent.
+        let kinds = [0, 1, random.byte()];
+        Party { member: random.byte(), kind: random.pick(&kinds) }
+    });
     let [quantity, price] = [(); 2].map(|_| random.sized_word() as u32);
-    Event::of(kind, named, first, second, quantity, price).expect("a kind from 1 to 9")
+    Event::of(kind, named, parties, quantity, price).expect("a kind from 1 to 9")
 }
 
 impl History<'_> {
@@ -29,8 +39,8 @@ impl History<'_> {
         match self.random.between(1, 9) {
             1 => Event::Trade {
                 security: self.any_security(),
-                seller: self.any_member(),
-                buyer: self.any_member(),
+                seller: self.any_party(),
+                buyer: self.any_party(),
                 quantity: self.any_quantity(),
                 price: self.any_price(),
             },
@@ -61,8 +71,10 @@ impl History<'_> {
 
     /// An event with good fields that the state of the book forbids, by the number of a refusal to aim at.
     fn against_state(&mut self) -> Option<Event> {
-        let position = match self.random.pick(&BY_STATE) {
+        let aims = if self.clients.is_some() { &BY_STATE_AND_KIND[..] } else { &BY_STATE };
+        let position = match self.random.pick(aims) {
             14 => return Some(self.trade_with_oneself()),
+            33 => return Some(self.trade_of_no_kind()),
             16 => self.pick_position(|book, at| book.positions[at].side == Side::Long),
             17 => self.pick_short(|book, at| !book.positions[at].is_due(book.day)),
             18 => return self.against_auction(),
@@ -78,12 +90,32 @@ impl History<'_> {
         position.map(|at| self.step_on(at))
     }
 
-    /// Good but for its members, also where the book takes no more trades.
+    /// Good but for its members and kinds, which are alike, also where the book takes no more trades.
     fn trade_with_oneself(&mut self) -> Event {
         let member = self.random.between(1, MEMBERS) as u8;
         let security = self.random.below(self.register.len());
         let (quantity, price) = (self.quantity(), self.price_near_latest(security));
-        Event::Trade { security: number(security), seller: member, buyer: member, quantity, price }
+        let mut party = self.party(member);
+        if self.clients.is_some() && self.random.one_in(3) {
+            party.kind = self.random.pick(&NO_KINDS);
+        }
+        Event::Trade { security: number(security), seller: party, buyer: party, quantity, price }
+    }
+
+    /// Good but for a kind, of the seller, of the buyer or of both, also where the book takes no more trades. Seller and
+    /// buyer are at times one member.
+    fn trade_of_no_kind(&mut self) -> Event {
+        let security = self.random.below(self.register.len());
+        let (quantity, price) = (self.quantity(), self.price_near_latest(security));
+        let members = [(); 2].map(|_| self.random.between(1, self.traders) as u8);
+        let [mut seller, mut buyer] = members.map(|member| self.party(member));
+        let [first, second] = [(); 2].map(|_| self.random.pick(&NO_KINDS));
+        match self.random.below(4) {
+            0 => [seller.kind, buyer.kind] = [first, second],
+            1 | 2 => seller.kind = first,
+            _ => buyer.kind = second,
+        }
+        Event::Trade { security: number(security), seller, buyer, quantity, price }
     }
 
     pub(super) fn second_confirmation(&mut self) -> Option<Event> {
@@ -220,6 +252,17 @@ impl History<'_> {
             1 => self.random.byte(),
             2 | 3 => self.random.between(1, MEMBERS) as u8,
             _ => self.random.between(1, self.traders) as u8,
+        }
+    }
+
+    /// Where there are clients, with any kind.
+    fn any_party(&mut self) -> Party {
+        let member = self.any_member();
+        let party = self.party(member);
+        match self.clients {
+            Some(_) if self.random.one_in(12) => Party { member, kind: self.random.byte() },
+            Some(_) if self.random.one_in(4) => in_other_kind(party),
+            _ => party,
         }
     }
 

@@ -2,9 +2,10 @@
 
 use super::History;
 use second::book::{
-    Book, Side, Trade, GREATEST_PRICE, GREATEST_QUANTITY, MEMBERS, MOST_ATTEMPTS, MOST_OFFERS, MOST_TRADES,
+    Book, Business, Holder, Side, Trade, GREATEST_PRICE, GREATEST_QUANTITY, MEMBERS, MOST_ATTEMPTS, MOST_OFFERS,
+    MOST_TRADES,
 };
-use second::events::Event;
+use second::events::{Event, Party};
 use second::windows::Step;
 
 impl History<'_> {
@@ -15,19 +16,45 @@ impl History<'_> {
         if self.random.one_in(8) && !self.book.todays_trades().is_empty() {
             return Some(self.returned_trade());
         }
+        if self.clients.is_some() && self.random.one_in(10) {
+            return Some(self.trade_across_kinds());
+        }
         let security = self.random.below(self.register.len());
         let seller = self.random.between(1, self.traders);
         let away = self.random.between(1, self.traders - 1);
         let buyer = (seller - 1 + away) % self.traders + 1;
         let (quantity, price) = (self.quantity(), self.price_near_latest(security));
-        Some(Event::Trade { security: number(security), seller: seller as u8, buyer: buyer as u8, quantity, price })
+        let [seller, buyer] = [seller, buyer].map(|member| self.party(member as u8));
+        Some(Event::Trade { security: number(security), seller, buyer, quantity, price })
     }
 
-    /// One of today's trades again with seller and buyer changed, so that nothing may be left to deliver.
+    /// The member for itself or for a client.
+    pub(super) fn party(&mut self, member: u8) -> Party {
+        match self.clients {
+            Some(often) if self.random.one_in(often) => Party::client(member),
+            _ => Party::own(member),
+        }
+    }
+
+    /// One of today's trades again with seller and buyer changed, so that nothing may be left to deliver. Where there
+    /// are clients, the buyer is at times the seller of then in its other kind, so that its two kinds would be nothing
+    /// together.
     fn returned_trade(&mut self) -> Event {
         let Trade { security, seller, buyer, quantity, .. } = self.random.pick(self.book.todays_trades());
         let price = self.price_near_latest(security);
+        let [seller, buyer] = [seller, buyer].map(party_of);
+        let is_changed = self.clients.is_some() && seller.member != buyer.member && self.random.one_in(2);
+        let seller = if is_changed { in_other_kind(seller) } else { seller };
         Event::Trade { security: number(security), seller: buyer, buyer: seller, quantity, price }
+    }
+
+    /// A trade of a member with itself, which its kind bytes alone allow.
+    fn trade_across_kinds(&mut self) -> Event {
+        let security = self.random.below(self.register.len());
+        let member = self.random.between(1, self.traders) as u8;
+        let (quantity, price) = (self.quantity(), self.price_near_latest(security));
+        let seller = self.random.pick(&[Party::own(member), Party::client(member)]);
+        Event::Trade { security: number(security), seller, buyer: in_other_kind(seller), quantity, price }
     }
 
     pub(super) fn fitting_price(&mut self) -> Option<Event> {
@@ -175,6 +202,19 @@ impl History<'_> {
 pub(super) fn age_of_price(book: &Book, position: usize) -> Option<u16> {
     let latest = book.securities[book.positions[position].security].latest_price?;
     Some(book.day - latest.day)
+}
+
+/// A side of a trade that the book holds, as an event says it.
+fn party_of(holder: Holder) -> Party {
+    match holder.kind {
+        Business::Own => Party::own(holder.member),
+        Business::Client => Party::client(holder.member),
+    }
+}
+
+/// The same member for its client in place of itself, or for itself in place of its client.
+pub(super) fn in_other_kind(party: Party) -> Party {
+    Party { member: party.member, kind: 1 - party.kind }
 }
 
 /// The number of a security, position or award at a place.

@@ -30,12 +30,15 @@ pub struct History<'a> {
     traders: usize,
     /// A security that gets no price.
     unpriced: Option<usize>,
+    /// One side of a trade in so many is a client's; without it members trade for themselves alone, as in the histories
+    /// that are timed.
+    clients: Option<usize>,
 }
 
 impl<'a> History<'a> {
     fn new(random: &'a mut Random, register: Vec<Security>, limit: usize) -> History<'a> {
         let book = Book::open(&register);
-        History { random, register, book, events: Vec::new(), limit, traders: MEMBERS, unpriced: None }
+        History { random, register, book, events: Vec::new(), limit, traders: MEMBERS, unpriced: None, clients: None }
     }
 
     /// Closes made on the book before the file begins.

@@ -1,11 +1,11 @@
 //! Whole histories, each as an input of the player.
 
-use super::fitting::number;
+use super::fitting::{in_other_kind, number};
 use super::registers::{different, with_classes};
 use super::{damaged, random_event, History};
 use crate::random::Random;
 use second::book::{MEMBERS, MOST_ATTEMPTS, MOST_TRADES};
-use second::events::{Event, MOST_EVENTS};
+use second::events::{Event, Party, MOST_EVENTS};
 use std::collections::HashSet;
 
 /// Any input, most often of a few hundred events at most.
@@ -55,8 +55,7 @@ pub fn full_book_in_cash(random: &mut Random) -> Vec<u8> {
     for seller in 1..=sellers {
         for security in 0..SECURITIES {
             let quantity = if seller == 1 { 100_000 } else { history.random.between(1, 100) as u32 };
-            let buyer = MEMBERS + 1 - seller;
-            let (seller, buyer) = (seller as u8, buyer as u8);
+            let [seller, buyer] = [seller, MEMBERS + 1 - seller].map(|member| Party::own(member as u8));
             history.play(Event::Trade { security: number(security), seller, buyer, quantity, price: 1_000 });
         }
     }
@@ -122,7 +121,13 @@ fn some_history(random: &mut Random, limit: usize) -> History<'_> {
     if history.random.one_in(2) {
         history.unpriced = Some(history.random.below(securities));
     }
+    history.clients = some_clients(history.random);
     history
+}
+
+/// How often a side of a trade is a client's, if ever.
+fn some_clients(random: &mut Random) -> Option<usize> {
+    random.pick(&[None, None, Some(2), Some(2), Some(5)])
 }
 
 fn market(random: &mut Random, limit: usize) -> Vec<u8> {
@@ -159,11 +164,13 @@ fn many_attempts(random: &mut Random) -> Vec<u8> {
     let register = with_classes(random, &[class; 4]);
     let mut history = History::new(random, register, 400);
     history.unpriced = Some(2);
+    history.clients = some_clients(history.random);
     let sellers = history.random.between(MOST_ATTEMPTS + 4, 35) as u8;
     for seller in 1..=sellers {
         let security = history.random.pick(&[1, 1, 1, 1, 2, 2, 2, 2, 3, 4]);
         let (quantity, price) = (history.quantity(), history.price_near_latest(0));
-        history.play(Event::Trade { security, seller, buyer: MEMBERS as u8, quantity, price });
+        let [seller, buyer] = [seller, MEMBERS as u8].map(|member| history.party(member));
+        history.play(Event::Trade { security, seller, buyer, quantity, price });
     }
     history.close_to_attempts(class);
     for _ in 0..MOST_ATTEMPTS {
@@ -192,13 +199,25 @@ impl History<'_> {
         }
     }
 
+    /// Trades on a full book: good ones, one of a member with itself across kinds among them, one of a member with itself
+    /// in one kind, and such as have a byte that is no kind.
+    fn trades_too_many(&mut self) {
+        let (own, client) = (Party::own(1), Party::client(2));
+        let other = Party { member: 3, kind: self.random.pick(&[2, 7, 255]) };
+        let sides =
+            [[own, client], [client, own], [own, in_other_kind(own)], [own, own], [other, own], [client, other]];
+        for [seller, buyer] in sides.into_iter().chain([[other, other]]) {
+            self.play(Event::Trade { security: 1, seller, buyer, quantity: 1, price: 1 });
+        }
+    }
+
     /// A trade in security 1. Each seller has a level, in hundredths of the price, and sells at prices near it.
     fn trade_near(&mut self, price: usize, levels: &[usize]) {
         let seller = self.random.below(levels.len());
         let buyer = levels.len() + self.random.between(1, 5);
         let price = price * (levels[seller] + self.random.below(11)) / 100;
         let quantity = self.random.between(1, 40) as u32;
-        let [seller, buyer] = [seller + 1, buyer].map(|member| member as u8);
+        let [seller, buyer] = [seller + 1, buyer].map(|member| self.party(member as u8));
         self.play(Event::Trade { security: 1, seller, buyer, quantity, price: price as u32 });
     }
 
@@ -224,17 +243,20 @@ fn many_pieces(random: &mut Random, trades: usize) -> Vec<u8> {
     let class = random.between(1, 3) as u8;
     let register = with_classes(random, &[class]);
     let mut history = History::new(random, register, MOST_EVENTS);
+    history.clients = some_clients(history.random);
     for trade in 0..trades {
         let buyer = (3 + trade % (MEMBERS - 2)) as u8;
         let quantity = history.random.between(1, 3) as u32;
         let price = history.price_near_latest(0);
-        history.play(Event::Trade { security: 1, seller: 1, buyer, quantity, price });
-        if usize::from(buyer) == MEMBERS {
+        let [seller, buyer] = [1, buyer].map(|member| history.party(member));
+        history.play(Event::Trade { security: 1, seller, buyer, quantity, price });
+        if usize::from(buyer.member) == MEMBERS {
             history.play(Event::Close);
         }
     }
     let price = history.price_near_latest(0);
-    history.play(Event::Trade { security: 1, seller: 2, buyer: 3, quantity: 1_000_000, price });
+    let [seller, buyer] = [2, 3].map(|member| history.party(member));
+    history.play(Event::Trade { security: 1, seller, buyer, quantity: 1_000_000, price });
     history.play(Event::Price { security: 1, price });
     history.play(Event::Close);
     let large = history.pick_short(|book, at| book.positions[at].member == 2);
@@ -261,6 +283,7 @@ fn settled_in_cash(random: &mut Random) -> Vec<u8> {
     let class = random.between(1, 3) as u8;
     let register = with_classes(random, &[class]);
     let mut history = History::new(random, register, 150);
+    history.clients = some_clients(history.random);
     let latest = history.random.pick(&[400, 1_100, 5_000, 20_000]);
     let raised = if class == 3 { latest + 300 } else { 2 * latest };
     let sellers: Vec<usize> = (0..history.random.between(2, 4)).map(|_| history.random.between(70, 130)).collect();
@@ -290,6 +313,7 @@ fn waiting(random: &mut Random, limit: usize) -> Vec<u8> {
     let register = with_classes(random, &classes);
     let mut history = History::new(random, register, limit);
     history.traders = history.random.between(2, 6);
+    history.clients = some_clients(history.random);
     for _ in 0..history.random.between(1, 8) {
         history.try_to_play(History::fitting_trade);
     }
@@ -308,28 +332,31 @@ fn waiting(random: &mut Random, limit: usize) -> Vec<u8> {
     history.input()
 }
 
-/// As many trades as a book holds, each of which makes two positions, and one more.
+/// As many trades as a book holds, each of which makes two positions, and more that are refused: for the number of trades
+/// alone, or for their kinds first.
 pub fn full_book(random: &mut Random) -> Vec<u8> {
     let securities = random.pick(&[24, 32]);
     let register = different(random, securities);
     let mut history = History::new(random, register, MOST_EVENTS);
+    history.clients = some_clients(history.random);
     let a_day = history.random.pick(&[100, 200, MOST_TRADES]);
     let mut used = HashSet::new();
     while history.book.trades.len() < MOST_TRADES {
         let Some(event) = history.fitting_trade() else { break };
         let Event::Trade { security, seller, buyer, .. } = event else { break };
-        // A second trade of a member in a security would be netted with the first.
-        if used.contains(&(security, seller)) || used.contains(&(security, buyer)) {
+        // A second trade of a member in a kind and security would be netted with the first.
+        let keys = [seller, buyer].map(|party| (security, party.member, party.kind));
+        if keys.iter().any(|key| used.contains(key)) {
             continue;
         }
-        used.extend([(security, seller), (security, buyer)]);
+        used.extend(keys);
         history.play(event);
         if history.book.trades.len().is_multiple_of(a_day) {
             history.play(Event::Close);
             used.clear();
         }
     }
-    history.play(Event::Trade { security: 1, seller: 1, buyer: 2, quantity: 1, price: 1 });
+    history.trades_too_many();
     for security in 0..securities {
         let price = history.price_near_latest(security);
         history.play(Event::Price { security: number(security), price });

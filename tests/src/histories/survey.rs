@@ -1,7 +1,11 @@
 //! Counts the states that histories reach, so that a comparison can want each of them.
 
+mod kinds;
+
 use super::terms::{Term, Terms};
-use second::book::{Answer, Auction, Award, Book, LatestPrice, Piece, Position, Side, MOST_ATTEMPTS, SHEET_PLACES};
+use second::book::{
+    Answer, Auction, Award, Book, Business, LatestPrice, Piece, Position, Side, MOST_ATTEMPTS, SHEET_PLACES,
+};
 use second::charges;
 use second::events::{Event, MOST_EVENTS};
 use second::refusal::Refusal;
@@ -71,8 +75,8 @@ states! {
     HigherAfter "a due long with a reference price above the cash price, after the quantity is used up",
     HigherEmpty "a due long with a reference price above the cash price, before the pieces, with nothing open",
     HigherNotDue "a long with a reference price above the cash price that is not due",
-    NettedToNothing "a member that bought what it sold on one day",
-    NettedInPart "a member that bought and sold different quantities on one day",
+    NettedToNothing "a member that bought what it sold in one kind on one day",
+    NettedInPart "a member that bought and sold different quantities in one kind on one day",
     MostPositions "a book of 1,024 positions",
     TwoPrices "two prices of a security on one day",
     AttemptAfterOlder "an attempt on a price of today after one of an earlier day",
@@ -91,6 +95,33 @@ states! {
     NothingOpenAttempt "an attempt on a price of today refused because nothing is open",
     NothingOpenCash "a cash settlement on a price of today refused because nothing is open",
     LateOnOld "a late short fined by a price of an earlier day",
+    AcrossKinds "a trade of a member with itself across kinds",
+    OneselfClient "a trade of a member with itself refused, both sides client",
+    OneselfNoKind "a trade of a member with itself refused with 14, both sides of one byte that is no kind",
+    OneselfTwoBytes "a trade of a member with itself refused with 33, as its bytes differ and one is no kind",
+    SellerKind2 "a trade refused for the seller's kind alone, which is 2",
+    SellerKind255 "a trade refused for the seller's kind alone, which is 255",
+    BuyerKind2 "a trade refused for the buyer's kind alone, which is 2",
+    BuyerKind255 "a trade refused for the buyer's kind alone, which is 255",
+    FullNoKind "a trade refused for a kind where 512 trades are held",
+    FullClient "a trade with a client refused because 512 trades are held",
+    BothShort "a member short in both kinds of a security at one close",
+    BothLong "a member long in both kinds of a security at one close",
+    ShortAndLong "a member short in one kind of a security and long in the other at one close",
+    KindsCancel "a member whose two kinds of a security would be nothing together at one close",
+    OneKindNothing "a member with one kind of a security netted to nothing, and the other not, at one close",
+    ReferencesByKind "two shorts or longs of a member at one close, alike but for kind and reference price",
+    ClientToOwn "a client short dealt to an own long",
+    OwnToClient "an own short dealt to a client long",
+    LongsOfBothKinds "a discharge over longs of one member in both kinds",
+    ToOtherKind "a piece from one kind of a member to its other",
+    CashToOtherKind "a cash settlement that a member pays itself, from one kind to the other",
+    ClientDelivered "a client short delivered",
+    ClientBoughtIn "a client short bought in",
+    ClientCash "a client short settled in cash",
+    FailingClient "an offer refused of a member that is failing for its clients alone",
+    FailingOwn "an offer refused of a member that is failing for itself alone, beside a client position",
+    LateClient "a late client short that is fined",
 }
 
 /// The prices that a history has given so far, by security.
@@ -140,6 +171,7 @@ impl Survey {
 
     fn accepted(&mut self, book: &Book, prices: &mut Prices, event: &Event, answer: &Answer) {
         match *event {
+            Event::Trade { seller, buyer, .. } => self.reach_if(seller.member == buyer.member, State::AcrossKinds),
             Event::Price { security, price } => {
                 let prices = &mut prices[usize::from(security) - 1];
                 self.reach_if(prices.last().is_some_and(|latest| latest.day == book.day), State::TwoPrices);
@@ -169,6 +201,7 @@ impl Survey {
             _ => {}
         }
         self.pieces(book, answer);
+        self.kinds_of_pieces(book, answer);
     }
 
     /// An accepted step, by the prices of its security, of which the last is today's.
@@ -184,6 +217,10 @@ impl Survey {
     fn refused(&mut self, book: &Book, event: &Event, refusal: Refusal) {
         let is_seventeenth = book.attempts.len() == MOST_ATTEMPTS;
         match (*event, refusal) {
+            (Event::Trade { seller, buyer, .. }, _) => self.refused_trade(book, seller, buyer, refusal),
+            (Event::Offer { short, offerer, .. }, Refusal::Failing) => {
+                self.failing_in_one_kind(book, offerer, position(book, short).security);
+            }
             (Event::Delivery { short, quantity }, Refusal::NotFree) => {
                 let open = position(book, short).open();
                 self.reach_if(quantity <= open, State::AwardedUnits);
@@ -333,16 +370,7 @@ impl Survey {
             let mut others = security.shorts.iter().filter(|&&other| other != at).map(|&other| &book.positions[other]);
             self.reach_if(others.any(|other| other.member == short.member && other.open() > 0), State::TwoShorts);
         }
-        let todays = book.todays_trades();
-        for (member, security) in todays.iter().map(|trade| (trade.seller, trade.security)) {
-            let total = |is_side: &dyn Fn(u8, u8) -> bool| -> u64 {
-                let trades = todays.iter().filter(|trade| trade.security == security);
-                trades.filter(|trade| is_side(trade.seller, trade.buyer)).map(|trade| u64::from(trade.quantity)).sum()
-            };
-            let (sold, bought) = (total(&|seller, _| seller == member), total(&|_, buyer| buyer == member));
-            self.reach_if(sold == bought, State::NettedToNothing);
-            self.reach_if(bought > 0 && sold != bought, State::NettedInPart);
-        }
+        self.kinds_of_close(book);
     }
 
     /// A late short of class 1 with the latest price of its security.
@@ -351,6 +379,7 @@ impl Survey {
         if let Some(LatestPrice { price, day }) = latest {
             let is_fined = charges::late_fine(u64::from(short.open()) * u64::from(price)) > 0;
             self.reach_if(is_fined, State::Late);
+            self.reach_if(is_fined && short.kind == Business::Client, State::LateClient);
             self.reach_if(is_fined && day < today, State::LateOnOld);
         }
     }

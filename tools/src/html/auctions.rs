@@ -1,6 +1,7 @@
 //! The buy-in auctions: of each attempt the ceiling, the offers in order of arrival, and the awards.
 
 use super::figure::{event_link, heads, mention, position_link};
+use crate::kinds;
 use crate::numbers::{counted, grouped};
 use crate::played::{Played, Step};
 use second::book::{Award, Cause, Offer};
@@ -96,11 +97,11 @@ fn table(played: &Played, auction: &Auction) -> String {
 fn title(played: &Played, auction: &Auction) -> String {
     let position = played.position(auction.short);
     format!(
-        "Day {}, event {}: auction on short {} (member {}, security {}), ceiling {}",
+        "Day {}, event {}: auction on short {} ({}, security {}), ceiling {}",
         grouped(auction.attempt.day),
         event_link(auction.attempt.number),
         position_link(auction.short),
-        position.member,
+        kinds::holder(position),
         position.security + 1,
         grouped(auction.ceiling)
     )

@@ -2,6 +2,7 @@
 
 use super::escape::escaped;
 use super::figure::{cell, event_link, heads, span};
+use crate::kinds;
 use crate::numbers::{counted, grouped};
 use crate::played::{Done, Kind, Played, Refused, Step};
 use crate::words::{award_words, call, charge_words, is_idle};
@@ -128,9 +129,9 @@ fn list(class: &str, items: impl Iterator<Item = String>) -> String {
 
 fn piece_item(played: &Played, event: usize, place: usize, piece: &Piece) -> String {
     let &Piece { short, long, quantity, cents, .. } = piece;
-    let [from, to] = [short, long].map(|number| played.position(number).member);
+    let [from, to] = [short, long].map(|number| kinds::holder(played.position(number)));
     format!(
-        "{} {} from position {} (member {from}) to position {} (member {to}), {} {}",
+        "{} {} from position {} ({from}) to position {} ({to}), {} {}",
         span(format_args!("p{event}.{place}.quantity"), quantity),
         if quantity == 1 { "unit" } else { "units" },
         span(format_args!("p{event}.{place}.short"), short),

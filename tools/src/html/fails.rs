@@ -4,6 +4,7 @@ use super::bars::{self, Starts};
 use super::escape::escaped;
 use super::figure::{cell, event_link, heads, mention, position_link};
 use super::pieces::{Pieces, Share};
+use crate::kinds;
 use crate::numbers::{counted, grouped};
 use crate::played::{side_name, Played};
 use second::book::{LatestPrice, Position, Side};
@@ -54,6 +55,7 @@ fn positions(played: &Played, pieces: &Pieces, security: usize, numbers: &[u16])
         "#Position",
         "Side",
         "#Member",
+        "Kind",
         "#Delivery day",
         "#Reference price",
         "#Netted",
@@ -82,6 +84,7 @@ fn row(played: &Played, pieces: &Pieces, number: u16) -> String {
         format!("<tr id=\"s{number}\"><th scope=\"row\" data-figure=\"s{number}.number\">{}</th>", grouped(number)),
         format!("<td><span data-figure=\"s{number}.side\">{}</span></td>", side_name(side)),
         cell(format_args!("s{number}.member"), member),
+        format!("<td>{}</td>", kinds::name(position.kind)),
         mention(delivery_day),
         mention(reference_price),
         cell(format_args!("s{number}.netted"), netted),
@@ -115,15 +118,16 @@ fn fail(played: &Played, pieces: &Pieces, number: u16) -> String {
 }
 
 fn title(short: &Position, state: &str) -> String {
-    let &Position { member, netted, delivery_day, .. } = short;
+    let &Position { netted, delivery_day, .. } = short;
     let [units, day] = [counted(netted, "unit"), grouped(delivery_day)];
-    format!("member {member} short {units}, delivery day {day}; {state}")
+    format!("{} short {units}, delivery day {day}; {state}", kinds::holder(short))
 }
 
 fn short_row(number: u16, short: &Position, cents: u64) -> String {
-    let &Position { member, netted, delivered, bought_in, cash, .. } = short;
+    let &Position { netted, delivered, bought_in, cash, .. } = short;
+    let holder = kinds::holder(short);
     [
-        format!("<tr class=\"short\"><th scope=\"row\">short {}, member {member}</th>", position_link(number)),
+        format!("<tr class=\"short\"><th scope=\"row\">short {}, {holder}</th>", position_link(number)),
         format!("<td class=\"bar\">{}</td>", bars::of_short(short)),
         [delivered, bought_in, cash, short.open(), netted].map(mention).concat(),
         mention(cents),
@@ -134,12 +138,9 @@ fn short_row(number: u16, short: &Position, cents: u64) -> String {
 
 fn long_row(played: &Played, share: &Share, bar: &str) -> String {
     let &Share { long, delivered, bought_in, cash, cents } = share;
-    let member = played.position(long).member;
+    let holder = kinds::holder(played.position(long));
     [
-        format!(
-            "<tr><th scope=\"row\">→ long {}, member {member}</th><td class=\"bar\">{bar}</td>",
-            position_link(long)
-        ),
+        format!("<tr><th scope=\"row\">→ long {}, {holder}</th><td class=\"bar\">{bar}</td>", position_link(long)),
         [delivered, bought_in, cash].map(mention).concat(),
         "<td></td>".to_string(),
         mention(share.units()),

@@ -4,7 +4,7 @@
 //!
 //! ```text
 //! security CLASS ISIN
-//! trade SELLER BUYER SECURITY QUANTITY PRICE
+//! trade SELLER [KIND] BUYER [KIND] SECURITY QUANTITY PRICE
 //! price SECURITY PRICE
 //! delivery POSITION QUANTITY
 //! attempt POSITION
@@ -14,6 +14,9 @@
 //! cash POSITION
 //! close
 //! ```
+//!
+//! A kind is `own`, `client` or, for any byte, `kind` and its number. It stands directly after its member, and one that is
+//! left out is own. Both are written unless both are own.
 //!
 //! Reading also takes blank lines, comments after a `#`, `close 5` for five closes, and `_` or `,` before each group of
 //! three digits. Whatever a file can hold is taken, also what the player refuses, so that refusals can be shown.

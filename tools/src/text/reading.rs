@@ -2,8 +2,12 @@
 
 use super::{is_writable, Input, MOST};
 use crate::numbers::{grouped, there};
-use second::events::Event;
+use second::events::{Event, Party};
 use second::register::{Security, ISIN_BYTES as ISIN_SIGNS};
+
+/// The bytes of the two kinds.
+const OWN: u8 = Party::own(0).kind;
+const CLIENT: u8 = Party::client(0).kind;
 
 /// A word of a message has at most so many signs.
 const MOST_SHOWN: usize = 40;
@@ -121,17 +125,7 @@ fn closes(fields: &[&str]) -> Result<usize, String> {
 fn event(word: &str, fields: &[&str]) -> Result<Event, String> {
     let only = |name| named(word, fields, [name]).and_then(|[field]| field.number());
     Ok(match word {
-        "trade" => {
-            let names = ["seller", "buyer", "security", "quantity", "price"];
-            let [seller, buyer, security, quantity, price] = named(word, fields, names)?;
-            Event::Trade {
-                seller: seller.number()?,
-                buyer: buyer.number()?,
-                security: security.number()?,
-                quantity: quantity.number()?,
-                price: price.number()?,
-            }
-        }
+        "trade" => trade(word, fields)?,
         "price" => {
             let [security, price] = named(word, fields, ["security", "price"])?;
             Event::Price { security: security.number()?, price: price.number()? }
@@ -147,6 +141,49 @@ fn event(word: &str, fields: &[&str]) -> Result<Event, String> {
         "cash" => Event::Cash { short: only("position")? },
         _ => return Err(format!("unknown word {}", quoted(word))),
     })
+}
+
+fn trade(word: &str, fields: &[&str]) -> Result<Event, String> {
+    let (numbers, [seller_kind, buyer_kind]) = without_kinds(fields)?;
+    let names = ["seller", "buyer", "security", "quantity", "price"];
+    let [seller, buyer, security, quantity, price] = named(word, &numbers, names)?;
+    Ok(Event::Trade {
+        seller: Party { member: seller.number()?, kind: seller_kind },
+        buyer: Party { member: buyer.number()?, kind: buyer_kind },
+        security: security.number()?,
+        quantity: quantity.number()?,
+        price: price.number()?,
+    })
+}
+
+/// The numbers of a trade, and the kinds of its two sides. A kind that is left out is own.
+fn without_kinds<'a>(words: &[&'a str]) -> Result<(Vec<&'a str>, [u8; 2]), String> {
+    let mut numbers = Vec::new();
+    let mut kinds = [OWN; 2];
+    let mut rest = words;
+    for (kind, name) in kinds.iter_mut().zip(["seller's kind", "buyer's kind"]) {
+        let Some((&member, after)) = rest.split_first() else { break };
+        numbers.push(member);
+        (*kind, rest) = kind_before(name, after)?;
+    }
+    numbers.extend(rest);
+    match numbers.iter().find(|word| ["own", "client", "kind"].contains(word)) {
+        Some(word) => {
+            Err(format!("a kind stands directly after the seller or the buyer, and {} does not", quoted(word)))
+        }
+        None => Ok((numbers, kinds)),
+    }
+}
+
+/// The kind at the start of the words, and those after it.
+fn kind_before<'a, 'b>(name: &'static str, words: &'a [&'b str]) -> Result<(u8, &'a [&'b str]), String> {
+    match *words {
+        ["own", ref rest @ ..] => Ok((OWN, rest)),
+        ["client", ref rest @ ..] => Ok((CLIENT, rest)),
+        ["kind", word, ref rest @ ..] => Ok((Field { name, word }.number()?, rest)),
+        ["kind"] => Err(format!("the {name} has no number after the word kind")),
+        _ => Ok((OWN, words)),
+    }
 }
 
 fn offer([position, offerer, quantity, price]: [Field; 4]) -> Result<Event, String> {

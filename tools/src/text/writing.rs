@@ -1,7 +1,8 @@
 //! A register and events written as text.
 
 use super::{is_writable, Input};
-use second::events::Event;
+use crate::kinds;
+use second::events::{Event, Party};
 
 /// The text that is read to this input; no text is read to an empty register or to an ISIN with blanks.
 pub fn write(input: &Input) -> Result<String, String> {
@@ -25,7 +26,7 @@ pub fn write(input: &Input) -> Result<String, String> {
 fn line(event: &Event) -> String {
     match *event {
         Event::Trade { security, seller, buyer, quantity, price } => {
-            format!("trade {seller} {buyer} {security} {quantity} {price}")
+            format!("trade {} {security} {quantity} {price}", sides(seller, buyer))
         }
         Event::Price { security, price } => format!("price {security} {price}"),
         Event::Delivery { short, quantity } => format!("delivery {short} {quantity}"),
@@ -35,5 +36,14 @@ fn line(event: &Event) -> String {
         Event::Confirm { award } => format!("confirm {award}"),
         Event::Cash { short } => format!("cash {short}"),
         Event::Close => "close".to_string(),
+    }
+}
+
+/// Seller and buyer, as they always were where both trade for themselves.
+fn sides(seller: Party, buyer: Party) -> String {
+    let all_own = [seller, buyer] == [seller, buyer].map(|party| Party::own(party.member));
+    match all_own {
+        true => format!("{} {}", seller.member, buyer.member),
+        false => format!("{} {}", kinds::with_member(seller), kinds::with_member(buyer)),
     }
 }

@@ -34,6 +34,18 @@ add-word32-at-2 c = search needs
 word32-at-requires-2 : tie.Need-word32-at-requires-2
 word32-at-requires-2 c κs = search needs
 
+add-byte-at-3 : tie.Need-add-byte-at-3
+add-byte-at-3 c = search needs
+
+byte-at-requires-3 : tie.Need-byte-at-requires-3
+byte-at-requires-3 c κs = tt
+
+add-byte-at-4 : tie.Need-add-byte-at-4
+add-byte-at-4 c = search needs
+
+byte-at-requires-4 : tie.Need-byte-at-requires-4
+byte-at-requires-4 c κs = tt
+
 fields-with-requires : tie.Need-fields-with-requires
 fields-with-requires c κs = tt
 
@@ -55,5 +67,9 @@ fields-at-spec =
     word32-at-requires
     add-word32-at-2
     word32-at-requires-2
+    add-byte-at-3
+    byte-at-requires-3
+    add-byte-at-4
+    byte-at-requires-4
     fields-with-requires
     returns)

@@ -1,84 +1,68 @@
--- `netting::net_trades` meets its contract. The loop's invariant: what stands in the table and the positions from this member on are the whole.
+-- `netting::net_trades` meets its contract.
 use borrow.Author.Needs.{needs}
-use native.Mathlib.Omega.{arith}
-use Prim.Native.Nat.{_-_, _≤_}
-use mathlib.Core.Path.{_≡_}
-use lib.ListN.{length}
-use Rattle.rows.proofs.Cells.{length-rows}
-use Rattle.tables.specs.Tables.{Trades, Positions}
-use Rattle.netting.specs.Gathering.{totalsOf}
+use Prim.Native.Nat.{ℕ}
+use mathlib.Core.Path.{_≡_, sym, _∙_}
+use mathlib.Core.List.{List}
+use Rattle.plain.specs.declared.Position.{Position}
+use Rattle.laws.specs.Lists.{each, range}
+use Rattle.plain.specs.Netting.{keys, netted}
+use Rattle.tables.specs.Tables.{Trades, Positions, today}
 use Rattle.tables.specs.Lent.{tradeTable, positionTable}
-use Rattle.rows.specs.Rows.{rowsOf}
-use Rattle.netting.proofs.Filling.{Filling}
-use Rattle.netting.proofs.Appending.{membersFrom, dayTable, member-room, member-more, gatherable, day-start, day-netted}
+use Rattle.netting.specs.Gathering.{totalsOf}
+use Rattle.netting.specs.Members.{ownPositions}
+use Rattle.netting.proofs.Made.{own-netted}
+use Rattle.netting.proofs.Appending.{gatherable, members-fit, members-netted}
 use Rattle.netting.proofs.net_trades.Statement.{statement}
 use Rattle.netting.proofs.net_trades.Tie as tie
 
-abbrev Inv-loop : tie.InvT-loop
-Inv-loop rows₀ held trades netted count day securities totals n₀ member₀ rows n member =
-    Filling (dayTable (positionTable rows₀ held) (tradeTable trades count netted) day securities) (membersFrom (day .0) (totalsOf totals) securities member) n (rowsOf rows) × (1 ≤ member) × (length rows ≡ 10240)
-
-abbrev μ-loop : tie.MeasureT-loop
-μ-loop rows₀ held trades netted count day securities totals n₀ member₀ rows n member = 64 - member
-
-abbrev trades-of : tie.Start Inv-loop μ-loop → Trades
+abbrev trades-of : tie.Start → Trades
 trades-of s = tradeTable (s .args .trades .now) (s .args .count) (s .args .netted)
 
-abbrev table-of : tie.Start Inv-loop μ-loop → Positions
+abbrev table-of : tie.Start → Positions
 table-of s = positionTable (s .args .rows .now) (s .args .held)
 
-no-totals-requires : tie.Need-no-totals-requires Inv-loop μ-loop
+no-totals-requires : tie.Need-no-totals-requires
 no-totals-requires c κs = search needs
 
-gather-requires : tie.Need-gather-requires Inv-loop μ-loop
+gather-requires : tie.Need-gather-requires
 gather-requires c κs = let s = c .before .before in (gatherable (table-of s) (trades-of s) _ _ (s .pre .0), c .before .no-totals .ensures)
 
-loop-holds : tie.Need-loop-holds Inv-loop μ-loop
-loop-holds c = let s = c .before .before .before in (day-start (table-of s) (trades-of s) _ _ (s .pre .0) _ (c .gather .ensures), omega arith, s .pre .1)
+has-client-requires : tie.Need-has-client-requires
+has-client-requires c κs = let s = c .before .before .before in gatherable (table-of s) (trades-of s) _ _ (s .pre .0)
 
-net-member-requires : tie.Need-net-member-requires Inv-loop μ-loop
-net-member-requires c κs =
-    let y = c .before .before in
-    let i = y .before .loop .inv in
-    let s = y .before .before .before .before .before in
-    let d = s .pre .0 in (
-      record {
-        member-fits = record { above = i .1; below = y .loop-test .taken };
-        securities-fit = d .securities-fit;
-        dated = d .dated;
-        room = member-room _ _ (s .args .securities) _ (y .loop-test .taken) _ _ _ (i .0);
-      },
-      i .2,
-    )
+net-clients-requires : tie.Need-net-clients-requires
+net-clients-requires c κs =
+    let k = c .before .before .before .before in
+    let s = k .before .before .before in
+    (s .pre .0, k .gather .ensures, s .pre .1)
 
-add-member : tie.Need-add-member Inv-loop μ-loop
-add-member c = omega arith
+returns : tie.Need-returns
+returns c = c .net-clients .ensures
 
-loop-less : tie.Need-loop-less Inv-loop μ-loop
-loop-less c = omega arith
+abbrev made : tie.After-gather → ℕ → List Position
+made g = let a = g .before .before .before .args in ownPositions (a .day .0) (totalsOf (g .gather .last .0)) (a .securities)
 
-loop-again : tie.Need-loop-again Inv-loop μ-loop
-loop-again c =
-    let y = c .before .before .before in
-    (member-more _ _ (y .before .before .before .before .before .args .securities) _ (y .loop-test .taken) _ _ _ (y .before .loop .inv .0) _ _ (c .net-member .ensures .0), omega arith, c .net-member .ensures .1)
+-- without client business the positions of the day are those of the table of own business
+same : (k : tie.Else1) → (let g = k .before .before in
+    let s = g .before .before .before in
+    netted (s .args .day .0) (today (trades-of s)) (keys (s .args .securities)) ≡ each (made g) (range 1 63))
+same k =
+    let h = k .before in
+    let g = h .before in
+    let s = g .before .before .before in
+    own-netted _ (trades-of s) _ (s .pre .0 .securities-fit) _ (g .gather .ensures) (sym (h .has-client .ensures) ∙ k .if1 .left)
 
-returns : tie.Need-returns Inv-loop μ-loop
-returns c =
-    let s = c .before .before .before .before .before in
-    let i = c .before .loop .inv in
-    (day-netted (table-of s) (trades-of s) _ _ (s .pre .0) _ _ (c .loop-test .left) (positionTable _ _) (length-rows _) (i .0), i .2)
+net-own-requires : tie.Need-net-own-requires
+net-own-requires c κs =
+    let k = c .before .before in
+    let s = k .before .before .before .before .before in
+    (members-fit (table-of s) (trades-of s) _ _ (s .pre .0) (made (k .before .before)) (same k), s .pre .1)
+
+returns-2 : tie.Need-returns-2
+returns-2 c =
+    let k = c .before .before .before in
+    let s = k .before .before .before .before .before in
+    (members-netted (table-of s) (trades-of s) _ _ (s .pre .0) (made (k .before .before)) (same k) _ (c .net-own .ensures .0), c .net-own .ensures .1)
 
 pub net-trades-spec : {M : Type 1} → statement M
-net-trades-spec =
-    tie.close
-    (tie.spec
-    Inv-loop
-    μ-loop
-    no-totals-requires
-    gather-requires
-    loop-holds
-    net-member-requires
-    add-member
-    loop-less
-    loop-again
-    returns)
+net-trades-spec = tie.close (tie.spec no-totals-requires gather-requires has-client-requires net-clients-requires returns net-own-requires returns-2)

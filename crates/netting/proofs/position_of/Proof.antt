@@ -6,8 +6,8 @@ use Rattle.netting.proofs.Made.{net-short, net-long}
 use Rattle.netting.proofs.position_of.Statement.{statement}
 use Rattle.netting.proofs.position_of.Tie as tie
 
-add-t9 : tie.Need-add-t9
-add-t9 c = search needs
+add-t10 : tie.Need-add-t10
+add-t10 c = search needs
 
 sub-netted : tie.Need-sub-netted
 sub-netted c = search needs
@@ -21,4 +21,4 @@ unfolding made
 returns-2 c = let a = c .before .before .before .before .before .before .args in net-long _ _ (a .bought) (a .sold) (omega (arith, c .before .before .if1 .left))
 
 pub position-of-spec : {M : Type 1} → statement M
-position-of-spec = tie.close (tie.spec add-t9 sub-netted returns returns-2)
+position-of-spec = tie.close (tie.spec add-t10 sub-netted returns returns-2)

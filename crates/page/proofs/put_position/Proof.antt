@@ -9,7 +9,7 @@ use Rattle.laws.specs.Parts.{all-take}
 use Rattle.report.specs.Digits.{digits}
 use Rattle.report.specs.Lines.{side}
 use Rattle.page.specs.Columns.{Column, column, width}
-use Rattle.page.specs.Page.{isinOf, columns, pageLine}
+use Rattle.page.specs.Page.{isinOf, kindLetter, columns, pageLine}
 use Rattle.page.proofs.Laying.{length-isin}
 use Rattle.page.proofs.Writing.{Written, next-written, room}
 use borrow.Author.Needs.{needs}
@@ -49,6 +49,9 @@ unsettled-from k = cash-from (k .before .before .before .before .before)
 
 abbrev settlement-from : tie.After-put-figure8 → tie.Start
 settlement-from k = unsettled-from (k .before .before .before .before .before)
+
+abbrev kind-from : tie.After-kind-letter → tie.Start
+kind-from k = settlement-from (k .before .before .before)
 
 -- the columns of the line, all of them and the first n
 abbrev all : tie.Start → List Column
@@ -226,12 +229,26 @@ settlement k =
     let s = unsettled-from p in
     next-written (take 9 (all s)) (column 74 78 (digits (s .args .position .settlement .0))) (s .args .page .now) _ (k .put-figure8 .last .0) refl (all-take (λ c. length (c .text) ≤ width c) 10 (all s) (s .pre .3)) (unsettled p) (k .put-figure8 .ensures)
 
+kind-letter-requires : tie.Need-kind-letter-requires
+kind-letter-requires c κs = search needs
+
+slice-write-page-2 : tie.Need-slice-write-page-2
+slice-write-page-2 c = omega (arith, settlement (c .before .before .before) .long, kind-from c .pre .0)
+
+kind : (k : tie.After-kind-letter) → Upto (kind-from k) 11 (set (k .before .before .before .put-figure8 .last .0) 79 (k .kind-letter .result))
+unfolding columns
+kind k =
+    let p = k .before .before .before in
+    let s = settlement-from p in
+    let page = p .put-figure8 .last .0 in
+    next-written (take 10 (all s)) (column 80 80 (kindLetter (s .args .position .kind) ∷ [])) (s .args .page .now) page (set page 79 (k .kind-letter .result)) refl (all-take (λ c. length (c .text) ≤ width c) 11 (all s) (s .pre .3)) (settlement p) (ap (set page 79) (k .kind-letter .ensures))
+
 same-length : tie.Need-same-length
-same-length c = settlement (c .before .before) .long
+same-length c = kind c .long
 
 returns : tie.Need-returns
 unfolding columns pageLine
-returns c = settlement (c .before .before) .text
+returns c = kind c .text
 
 pub put-position-spec : {M : Type 1} → statement M
 put-position-spec =
@@ -256,5 +273,7 @@ put-position-spec =
     put-figure-requires-7
     cast-put-figure-7
     put-figure-requires-8
+    kind-letter-requires
+    slice-write-page-2
     same-length
     returns)

@@ -56,7 +56,7 @@ cast-t15 : tie.Need-cast-t15
 cast-t15 c = search needs
 
 cast-t16 : tie.Need-cast-t16
-cast-t16 c = search needs
+cast-t16 c = omega (arith, c .struct-known6 .given)
 
 slice-write-page : tie.Need-slice-write-page
 slice-write-page c = search needs
@@ -72,11 +72,11 @@ named-few c =
 
 figures-few : (c : tie.After-struct-known6) → length (numbers (figures (start c .args .position))) ≤ 55
 figures-few c =
-    figures-most (figures (start c .args .position)) (omega arith, (omega arith, (omega arith, (omega arith, (omega arith, tt)))))
+    figures-most (figures (start c .args .position)) (omega (arith, c .struct-known6 .given), (omega (arith, c .struct-known6 .given), (omega (arith, c .struct-known6 .given), (omega (arith, c .struct-known6 .given), (omega (arith, c .struct-known6 .given), tt)))))
 
 brief : (c : tie.After-struct-known6) → length (positionLine (start c .args .number) (start c .args .position)) ≤ LINE
 brief c =
-    position-most (start c .args .number) (start c .args .position) (start c .fits .number .fits) (omega arith) (omega arith) (omega arith) (omega arith) (omega arith) (omega arith)
+    position-most (start c .args .number) (start c .args .position) (start c .fits .number .fits) (omega (arith, c .struct-known6 .given)) (omega (arith, c .struct-known6 .given)) (omega (arith, c .struct-known6 .given)) (omega (arith, c .struct-known6 .given)) (omega (arith, c .struct-known6 .given)) (omega (arith, c .struct-known6 .given))
 
 sub-put-numbers : tie.Need-sub-put-numbers
 sub-put-numbers c = omega (arith, long c)

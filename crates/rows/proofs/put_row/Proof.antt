@@ -1,8 +1,10 @@
+-- `rows::put_row` meets its contract.
 use borrow.Author.Needs.{needs}
-use Rattle.rows.proofs.put_row.Statement.{statement}
-use Rattle.rows.proofs.put_row.Tie as tie
+use native.Mathlib.Omega.{arith}
 use lib.ListN.{length-set}
 use Rattle.rows.proofs.Cells.{row-stored}
+use Rattle.rows.proofs.put_row.Statement.{statement}
+use Rattle.rows.proofs.put_row.Tie as tie
 
 mul-at : tie.Need-mul-at
 mul-at c = search needs
@@ -106,10 +108,26 @@ mul-rows-10 c = search needs
 element-write-rows-10 : tie.Need-element-write-rows-10
 element-write-rows-10 c = search needs
 
+kind-number-requires : tie.Need-kind-number-requires
+kind-number-requires c κs = search needs
+
+cast-rows-4 : tie.Need-cast-rows-4
+cast-rows-4 c = search needs
+
+add-rows-10 : tie.Need-add-rows-10
+add-rows-10 c = search needs
+
+mul-rows-11 : tie.Need-mul-rows-11
+mul-rows-11 c = search needs
+
+element-write-rows-11 : tie.Need-element-write-rows-11
+element-write-rows-11 c = search needs
+
 returns : tie.Need-returns
 returns c =
-    let k = c .before .before .before .before in
-    (row-stored _ _ _ _ (k .pre .0) (k .pre .1) (search needs) (search needs) (search needs) (c .before .bit-of .ensures), simp length-set (k .pre .0))
+    let b = c .before .before in
+    let k = b .before .before .before in
+    (row-stored _ _ _ _ _ (k .pre .0) (k .pre .1) (search needs) (search needs) (omega (arith, b .before .before .struct-known .given)) (b .bit-of .ensures) (c .kind-number .ensures), simp length-set (k .pre .0))
 
 pub put-row-spec : {M : Type 1} → statement M
 put-row-spec =
@@ -149,4 +167,9 @@ put-row-spec =
     add-rows-9
     mul-rows-10
     element-write-rows-10
+    kind-number-requires
+    cast-rows-4
+    add-rows-10
+    mul-rows-11
+    element-write-rows-11
     returns)

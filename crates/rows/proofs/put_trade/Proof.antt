@@ -1,3 +1,4 @@
+-- `rows::put_trade` meets its contract.
 use borrow.Author.Needs.{needs}
 use lib.ListN.{length-set}
 use Rattle.rows.proofs.Cells.{trade-stored}
@@ -58,10 +59,34 @@ mul-trades-5 c = search needs
 element-write-trades-5 : tie.Need-element-write-trades-5
 element-write-trades-5 c = search needs
 
+cast-trades-4 : tie.Need-cast-trades-4
+cast-trades-4 c = search needs
+
+add-trades-5 : tie.Need-add-trades-5
+add-trades-5 c = search needs
+
+mul-trades-6 : tie.Need-mul-trades-6
+mul-trades-6 c = search needs
+
+element-write-trades-6 : tie.Need-element-write-trades-6
+element-write-trades-6 c = search needs
+
+cast-trades-5 : tie.Need-cast-trades-5
+cast-trades-5 c = search needs
+
+add-trades-6 : tie.Need-add-trades-6
+add-trades-6 c = search needs
+
+mul-trades-7 : tie.Need-mul-trades-7
+mul-trades-7 c = search needs
+
+element-write-trades-7 : tie.Need-element-write-trades-7
+element-write-trades-7 c = search needs
+
 returns : tie.Need-returns
 returns c =
-    let k = c .before .before .before in
-    (trade-stored _ _ _ (k .pre .0) (k .pre .1) (search needs) (search needs) (search needs), simp length-set (k .pre .0))
+    let k = c .before .before .before .before .before in
+    (trade-stored _ _ _ (k .pre .0) (k .pre .1) (search needs) (search needs) (search needs) (search needs) (search needs), simp length-set (k .pre .0))
 
 pub put-trade-spec : {M : Type 1} → statement M
 put-trade-spec =
@@ -85,4 +110,12 @@ put-trade-spec =
     add-trades-4
     mul-trades-5
     element-write-trades-5
+    cast-trades-4
+    add-trades-5
+    mul-trades-6
+    element-write-trades-6
+    cast-trades-5
+    add-trades-6
+    mul-trades-7
+    element-write-trades-7
     returns)

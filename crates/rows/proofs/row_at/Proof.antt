@@ -1,146 +1,165 @@
+-- `rows::row_at` meets its contract.
 use borrow.Author.Needs.{needs}
-use Rattle.rows.proofs.row_at.Statement.{statement}
-use Rattle.rows.proofs.row_at.Tie as tie
 use mathlib.Core.Path.{sym}
 use Rattle.rows.proofs.Cells.{row-is}
+use Rattle.rows.proofs.row_at.Statement.{statement}
+use Rattle.rows.proofs.row_at.Tie as tie
 
 mul-at : tie.Need-mul-at
 mul-at c = search needs
 
-add-t5 : tie.Need-add-t5
-add-t5 c = search needs
+add-kind-of : tie.Need-add-kind-of
+add-kind-of c = search needs
 
-mul-t6 : tie.Need-mul-t6
-mul-t6 c = search needs
+mul-kind-of : tie.Need-mul-kind-of
+mul-kind-of c = search needs
 
-element-copy-out-t9 : tie.Need-element-copy-out-t9
-element-copy-out-t9 c = search needs
+element-copy-out-kind-of : tie.Need-element-copy-out-kind-of
+element-copy-out-kind-of c = search needs
 
-cast-t11 : tie.Need-cast-t11
-cast-t11 c = search needs
-
-mul-t5 : tie.Need-mul-t5
-mul-t5 c = search needs
-
-element-copy-out-t9-2 : tie.Need-element-copy-out-t9-2
-element-copy-out-t9-2 c = search needs
-
-cast-t14 : tie.Need-cast-t14
-cast-t14 c = search needs
+kind-of-requires : tie.Need-kind-of-requires
+kind-of-requires c κs = search needs
 
 add-t6 : tie.Need-add-t6
 add-t6 c = search needs
 
-mul-t15 : tie.Need-mul-t15
-mul-t15 c = search needs
+mul-t7 : tie.Need-mul-t7
+mul-t7 c = search needs
 
-element-copy-out-t18 : tie.Need-element-copy-out-t18
-element-copy-out-t18 c = search needs
+element-copy-out-t10 : tie.Need-element-copy-out-t10
+element-copy-out-t10 c = search needs
 
-cast-t11-2 : tie.Need-cast-t11-2
-cast-t11-2 c = search needs
+cast-t14 : tie.Need-cast-t14
+cast-t14 c = search needs
 
-add-t20 : tie.Need-add-t20
-add-t20 c = search needs
+mul-t6 : tie.Need-mul-t6
+mul-t6 c = search needs
 
-mul-t21 : tie.Need-mul-t21
-mul-t21 c = search needs
+element-copy-out-t10-2 : tie.Need-element-copy-out-t10-2
+element-copy-out-t10-2 c = search needs
 
-element-copy-out-t24 : tie.Need-element-copy-out-t24
-element-copy-out-t24 c = search needs
+cast-t17 : tie.Need-cast-t17
+cast-t17 c = search needs
 
-add-t26 : tie.Need-add-t26
-add-t26 c = search needs
+add-t7 : tie.Need-add-t7
+add-t7 c = search needs
 
-mul-t27 : tie.Need-mul-t27
-mul-t27 c = search needs
+mul-t18 : tie.Need-mul-t18
+mul-t18 c = search needs
 
-element-copy-out-t30 : tie.Need-element-copy-out-t30
-element-copy-out-t30 c = search needs
+element-copy-out-t21 : tie.Need-element-copy-out-t21
+element-copy-out-t21 c = search needs
 
-add-t31 : tie.Need-add-t31
-add-t31 c = search needs
+cast-t14-2 : tie.Need-cast-t14-2
+cast-t14-2 c = search needs
 
-mul-t32 : tie.Need-mul-t32
-mul-t32 c = search needs
+add-t23 : tie.Need-add-t23
+add-t23 c = search needs
 
-element-copy-out-t35 : tie.Need-element-copy-out-t35
-element-copy-out-t35 c = search needs
+mul-t24 : tie.Need-mul-t24
+mul-t24 c = search needs
 
-add-t36 : tie.Need-add-t36
-add-t36 c = search needs
+element-copy-out-t27 : tie.Need-element-copy-out-t27
+element-copy-out-t27 c = search needs
 
-mul-t37 : tie.Need-mul-t37
-mul-t37 c = search needs
+add-t29 : tie.Need-add-t29
+add-t29 c = search needs
 
-element-copy-out-t40 : tie.Need-element-copy-out-t40
-element-copy-out-t40 c = search needs
+mul-t30 : tie.Need-mul-t30
+mul-t30 c = search needs
 
-add-t41 : tie.Need-add-t41
-add-t41 c = search needs
+element-copy-out-t33 : tie.Need-element-copy-out-t33
+element-copy-out-t33 c = search needs
 
-mul-t42 : tie.Need-mul-t42
-mul-t42 c = search needs
+add-t34 : tie.Need-add-t34
+add-t34 c = search needs
 
-element-copy-out-t45 : tie.Need-element-copy-out-t45
-element-copy-out-t45 c = search needs
+mul-t35 : tie.Need-mul-t35
+mul-t35 c = search needs
 
-add-t46 : tie.Need-add-t46
-add-t46 c = search needs
+element-copy-out-t38 : tie.Need-element-copy-out-t38
+element-copy-out-t38 c = search needs
 
-mul-t47 : tie.Need-mul-t47
-mul-t47 c = search needs
+add-t39 : tie.Need-add-t39
+add-t39 c = search needs
 
-element-copy-out-t50 : tie.Need-element-copy-out-t50
-element-copy-out-t50 c = search needs
+mul-t40 : tie.Need-mul-t40
+mul-t40 c = search needs
 
-add-t51 : tie.Need-add-t51
-add-t51 c = search needs
+element-copy-out-t43 : tie.Need-element-copy-out-t43
+element-copy-out-t43 c = search needs
 
-mul-t52 : tie.Need-mul-t52
-mul-t52 c = search needs
+add-t44 : tie.Need-add-t44
+add-t44 c = search needs
 
-element-copy-out-t55 : tie.Need-element-copy-out-t55
-element-copy-out-t55 c = search needs
+mul-t45 : tie.Need-mul-t45
+mul-t45 c = search needs
+
+element-copy-out-t48 : tie.Need-element-copy-out-t48
+element-copy-out-t48 c = search needs
+
+add-t49 : tie.Need-add-t49
+add-t49 c = search needs
+
+mul-t50 : tie.Need-mul-t50
+mul-t50 c = search needs
+
+element-copy-out-t53 : tie.Need-element-copy-out-t53
+element-copy-out-t53 c = search needs
+
+add-t54 : tie.Need-add-t54
+add-t54 c = search needs
+
+mul-t55 : tie.Need-mul-t55
+mul-t55 c = search needs
+
+element-copy-out-t58 : tie.Need-element-copy-out-t58
+element-copy-out-t58 c = search needs
 
 returns : tie.Need-returns
-returns c = sym (row-is _ _ (c .before .before .before .before .before .before .before .before .before .before .pre))
+returns c =
+    let k = c .before .before .before .before .before .before .before .before .before .before in
+    rw (k .kind-of .ensures) (sym (row-is _ _ (k .before .before .pre)))
 
 pub row-at-spec : {M : Type 1} → statement M
 row-at-spec =
     tie.close
     (tie.spec
     mul-at
-    add-t5
-    mul-t6
-    element-copy-out-t9
-    cast-t11
-    mul-t5
-    element-copy-out-t9-2
-    cast-t14
+    add-kind-of
+    mul-kind-of
+    element-copy-out-kind-of
+    kind-of-requires
     add-t6
-    mul-t15
-    element-copy-out-t18
-    cast-t11-2
-    add-t20
-    mul-t21
-    element-copy-out-t24
-    add-t26
-    mul-t27
-    element-copy-out-t30
-    add-t31
-    mul-t32
-    element-copy-out-t35
-    add-t36
-    mul-t37
-    element-copy-out-t40
-    add-t41
-    mul-t42
-    element-copy-out-t45
-    add-t46
-    mul-t47
-    element-copy-out-t50
-    add-t51
-    mul-t52
-    element-copy-out-t55
+    mul-t7
+    element-copy-out-t10
+    cast-t14
+    mul-t6
+    element-copy-out-t10-2
+    cast-t17
+    add-t7
+    mul-t18
+    element-copy-out-t21
+    cast-t14-2
+    add-t23
+    mul-t24
+    element-copy-out-t27
+    add-t29
+    mul-t30
+    element-copy-out-t33
+    add-t34
+    mul-t35
+    element-copy-out-t38
+    add-t39
+    mul-t40
+    element-copy-out-t43
+    add-t44
+    mul-t45
+    element-copy-out-t48
+    add-t49
+    mul-t50
+    element-copy-out-t53
+    add-t54
+    mul-t55
+    element-copy-out-t58
     returns)

@@ -1,3 +1,4 @@
+-- `rows::trade_at` meets its contract.
 use borrow.Author.Needs.{needs}
 use mathlib.Core.Path.{sym}
 use Rattle.rows.proofs.Cells.{trade-is}
@@ -58,8 +59,32 @@ mul-t30 c = search needs
 element-copy-out-t33 : tie.Need-element-copy-out-t33
 element-copy-out-t33 c = search needs
 
+add-t34 : tie.Need-add-t34
+add-t34 c = search needs
+
+mul-t35 : tie.Need-mul-t35
+mul-t35 c = search needs
+
+element-copy-out-t38 : tie.Need-element-copy-out-t38
+element-copy-out-t38 c = search needs
+
+cast-t40 : tie.Need-cast-t40
+cast-t40 c = search needs
+
+add-t41 : tie.Need-add-t41
+add-t41 c = search needs
+
+mul-t42 : tie.Need-mul-t42
+mul-t42 c = search needs
+
+element-copy-out-t45 : tie.Need-element-copy-out-t45
+element-copy-out-t45 c = search needs
+
+cast-t47 : tie.Need-cast-t47
+cast-t47 c = search needs
+
 returns : tie.Need-returns
-returns c = sym (trade-is _ _ (c .before .before .before .before .before .pre))
+returns c = sym (trade-is _ _ (c .before .before .before .before .before .before .before .pre))
 
 pub trade-at-spec : {M : Type 1} → statement M
 trade-at-spec =
@@ -83,4 +108,12 @@ trade-at-spec =
     add-t29
     mul-t30
     element-copy-out-t33
+    add-t34
+    mul-t35
+    element-copy-out-t38
+    cast-t40
+    add-t41
+    mul-t42
+    element-copy-out-t45
+    cast-t47
     returns)

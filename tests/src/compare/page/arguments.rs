@@ -6,16 +6,18 @@ use fails_book_tests::histories::registers::{different, with_classes};
 use fails_book_tests::histories::{self, damage, random_event};
 use fails_book_tests::random::Random;
 use second::book::{GREATEST_QUANTITY, MEMBERS, MOST_OFFERS, MOST_TRADES};
-use second::events::{self, file_of, Event, WIDTH};
+use second::events::{self, file_of, Event, Party, WIDTH};
 use second::register::{self, bytes_of};
 
-/// Two members sell up to 512,000,000 units to two others; some are delivered, some of one member's are bought in, and
-/// the other's are settled in cash.
+/// Two members sell up to 512,000,000 units to two others, each for itself or for a client; some are delivered, some of
+/// one member's are bought in, and the other's are settled in cash.
 pub fn large_quantities(random: &mut Random) -> Given {
     let members = distinct_members(random);
-    let (traders, offerer) = (&members[..4], members[4]);
+    let kinds: [u8; 4] = std::array::from_fn(|_| random.below(2) as u8);
+    let traders: Vec<Party> = members.into_iter().zip(kinds).map(|(member, kind)| Party { member, kind }).collect();
+    let offerer = members[4];
     // Positions are numbered by member. Where one of them has none, some calls are refused.
-    let short_of = |seller: u8| 1 + traders.iter().filter(|&&trader| trader < seller).count() as u16;
+    let short_of = |seller: Party| 1 + traders.iter().filter(|trader| trader.member < seller.member).count() as u16;
     let [one, other] = [traders[0], traders[1]].map(short_of);
     let closes = |days: usize| vec![Event::Close; days];
     let price = Event::Price { security: 1, price: 1_000 };
@@ -110,6 +112,6 @@ fn events_of(random: &mut Random, count: usize, event: fn(&mut Random, u8) -> Ev
 /// The book accepts such events more often than those of any fields.
 fn event_of_small_fields(random: &mut Random, kind: u8) -> Event {
     let [named, quantity, price] = [(); 3].map(|_| random.below(4) as u16);
-    let [first, second] = [(); 2].map(|_| random.below(4) as u8);
-    Event::of(kind, named, first, second, quantity.into(), price.into()).expect("a kind from 1 to 9")
+    let parties = [(); 2].map(|_| Party { member: random.below(4) as u8, kind: random.below(3) as u8 });
+    Event::of(kind, named, parties, quantity.into(), price.into()).expect("a kind from 1 to 9")
 }

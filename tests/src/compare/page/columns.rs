@@ -7,10 +7,11 @@ use crate::check::Check;
 use crate::compare::same;
 use fails_book_tests::histories;
 use fails_book_tests::random::Random;
+use second::book::Business;
 use second::transcript::transcript;
 
 /// The columns by name, each from its first to its last, counted from 1, and the most signs that a file can put there.
-const COLUMNS: [(&str, usize, usize, usize); 10] = [
+const COLUMNS: [(&str, usize, usize, usize); 11] = [
     ("position", 1, 4, 4),
     ("member", 6, 7, 2),
     ("ISIN", 9, 20, 12),
@@ -22,9 +23,10 @@ const COLUMNS: [(&str, usize, usize, usize); 10] = [
     ("open", 64, 72, 9),
     // No file has enough closes for five digits.
     ("S", 74, 78, 4),
+    ("kind letter", 80, 80, 1),
 ];
 
-const BETWEEN_AND_AFTER: &str = "           \n";
+const BETWEEN_AND_AFTER: &str = "          \n";
 
 type Words = [String; COLUMNS.len()];
 
@@ -80,7 +82,7 @@ fn between_and_after(line: &[u8]) -> String {
 }
 
 /// The words of each line in the order of the columns, unless the input is refused: those of the transcript's `s`
-/// lines, with ISIN and delivery day from register and book.
+/// lines, with ISIN, delivery day and kind from register and book.
 fn by_transcript(given: &Given) -> Option<Vec<Vec<String>>> {
     let (securities, book) = given.played()?;
     let printed = String::from_utf8_lossy(&transcript(&given.as_input())).into_owned();
@@ -90,6 +92,7 @@ fn by_transcript(given: &Given) -> Option<Vec<Vec<String>>> {
         let (_, isin) = securities[position.security];
         words.insert(2, String::from_utf8_lossy(&isin).into_owned());
         words.push(position.delivery_day.to_string());
+        words.push(if position.kind == Business::Own { "O" } else { "C" }.to_string());
         words
     });
     Some(lines.collect())

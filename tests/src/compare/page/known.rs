@@ -2,7 +2,7 @@
 
 use super::{compare, known, on_a_fitting_page, sizes, Given, LINE};
 use crate::check::Check;
-use crate::compare::player::{example, squeeze};
+use crate::compare::player::{example, own_trade, squeeze};
 use crate::compare::same;
 use fails_book_tests::histories;
 use fails_book_tests::histories::registers::different;
@@ -14,26 +14,26 @@ use second::register::{self, bytes_of};
 const PAGE_TOO_SHORT: u32 = 31;
 
 pub const EXAMPLE: [&str; 2] = [
-    "   1  1 XX0000000002 D       100       100         0         0         0     3  ",
-    "   2  2 XX0000000002 R       100       100         0         0         0     3  ",
+    "   1  1 XX0000000002 D       100       100         0         0         0     3 O",
+    "   2  2 XX0000000002 R       100       100         0         0         0     3 O",
 ];
 
 pub const SQUEEZE: [&str; 3] = [
-    "   1  1 XX0000000002 D       150        30        30        90         0     3  ",
-    "   2  2 XX0000000002 R       100        30        30        40         0     3  ",
-    "   3  3 XX0000000002 R        50         0         0        50         0     3  ",
+    "   1  1 XX0000000002 D       150        30        30        90         0     3 O",
+    "   2  2 XX0000000002 R       100        30        30        40         0     3 O",
+    "   3  3 XX0000000002 R        50         0         0        50         0     3 O",
 ];
 
 const NINE_DIGITS: [&str; 3] = [
-    "   1 61 XX0000000002 R 512000000 101234567 110617248 200000000 100148185  1003  ",
-    "   2 62 XX0000000002 D 312000000 101234567 110617248         0 100148185  1003  ",
-    "   3 63 XX0000000002 D 200000000         0         0 200000000         0  1003  ",
+    "   1 61 XX0000000002 R 512000000 101234567 110617248 200000000 100148185  1003 O",
+    "   2 62 XX0000000002 D 312000000 101234567 110617248         0 100148185  1003 O",
+    "   3 63 XX0000000002 D 200000000         0         0 200000000         0  1003 O",
 ];
 
 /// Member 62 sells 312,000,000 units and member 63 sells 200,000,000, all to member 61. Of member 62's, 101,234,567 are
 /// delivered and seven auctions buy in 16 times 987,654 each; member 63's are settled in cash.
 pub fn nine_digits() -> Given {
-    let trade = |seller| Event::Trade { security: 1, seller, buyer: 61, quantity: GREATEST_QUANTITY, price: 1_000 };
+    let trade = |seller| own_trade(seller, 61, GREATEST_QUANTITY, 1_000);
     let closes = |days| vec![Event::Close; days];
     let price = Event::Price { security: 1, price: 1_000 };
     let auction_day = [vec![price], auction(2, 1, &[987_654; MOST_OFFERS]), closes(10)].concat();
@@ -105,7 +105,7 @@ pub fn units_of(quantity: &str) -> u32 {
 /// The lines of a short of member 1 and a long of member 2, alike in their quantities.
 fn two_lines(quantities: [&str; 5]) -> [String; 2] {
     let quantities = quantities.join(" ");
-    ["   1  1 XX0000000002 D", "   2  2 XX0000000002 R"].map(|start| format!("{start} {quantities}     3  "))
+    ["   1  1 XX0000000002 D", "   2  2 XX0000000002 R"].map(|start| format!("{start} {quantities}     3 O"))
 }
 
 /// The units in quantities that a trade or an offer can have.
@@ -117,7 +117,7 @@ fn parts(units: u32) -> Vec<u32> {
 
 /// Member 1 sells the units to member 2 on day 1; the class is 1, and after the closes a price and the steps follow.
 fn sold(units: u32, closes: usize, steps: &[Event]) -> Given {
-    let trade = |quantity| Event::Trade { security: 1, seller: 1, buyer: 2, quantity, price: 1_000 };
+    let trade = |quantity| own_trade(1, 2, quantity, 1_000);
     let trades: Vec<Event> = parts(units).into_iter().map(trade).collect();
     let price = Event::Price { security: 1, price: 1_000 };
     Given::on_one_security(1, &[&trades[..], &vec![Event::Close; closes], &[price], steps].concat())
@@ -154,13 +154,13 @@ pub const DELIVERY_DAYS: [(usize, &str); 8] = [
 pub fn delivery_days_of_each_width(check: &mut Check) {
     for (closes, delivery_day) in DELIVERY_DAYS {
         let lines = ["   1 10 XX0000000002 R", "   2 63 XX0000000002 D"]
-            .map(|start| format!("{start}         7         0         0         0         7 {delivery_day}  "));
+            .map(|start| format!("{start}         7         0         0         0         7 {delivery_day} O"));
         around_the_length(check, &sold_after(closes), &lines);
     }
 }
 
 pub fn sold_after(closes: usize) -> Given {
-    let trade = Event::Trade { security: 1, seller: 63, buyer: 10, quantity: 7, price: 1_000 };
+    let trade = own_trade(63, 10, 7, 1_000);
     Given::on_one_security(3, &[&vec![Event::Close; closes][..], &[trade, Event::Close]].concat())
 }
 
@@ -188,7 +188,7 @@ pub fn most_positions(check: &mut Check) {
 
 pub fn books_without_positions(check: &mut Check) {
     let mut random = Random::new(0, "no positions");
-    let trade = |seller, buyer| Event::Trade { security: 1, seller, buyer, quantity: 100, price: 1_000 };
+    let trade = |seller, buyer| own_trade(seller, buyer, 100, 1_000);
     let refused =
         [trade(1, 64), trade(1, 1), Event::Delivery { short: 1, quantity: 1 }, Event::Attempt { short: 1 }].repeat(512);
     let books = [
@@ -308,7 +308,7 @@ pub fn pages_of_each_length(check: &mut Check, events: &[Event], lines: &[&str])
 }
 
 /// Lines known beforehand, on pages that are just long enough or just not.
-fn around_the_length(check: &mut Check, given: &Given, lines: &[impl AsRef<str>]) {
+pub fn around_the_length(check: &mut Check, given: &Given, lines: &[impl AsRef<str>]) {
     let mut random = Random::new(0, "pages around the length");
     for size in sizes(lines.len()) {
         known_lines(check, &mut random, given, size, lines);

@@ -1,4 +1,4 @@
--- `netting::net_member` meets its contract. The loop's invariant: what stands in the table and the positions from this security on are the whole.
+-- `netting::net_kind` meets its contract. The loop's invariant: what stands in the table and the positions from this security on are the whole.
 use borrow.Author.Needs.{needs}
 use native.Mathlib.Omega.{arith}
 use Prim.Native.Nat.{_+_, _-_, _≤_, _<_}
@@ -17,35 +17,38 @@ use Rattle.rows.specs.Rows.{rowsOf}
 use Rattle.netting.proofs.Places.{place-fits}
 use Rattle.netting.proofs.Filling.{Filling, next-place, filling-more}
 use Rattle.netting.proofs.Made.{net-none}
-use Rattle.netting.proofs.Appending.{memberFrom, memberTable, member-start, member-next, member-appended}
-use Rattle.netting.proofs.net_member.Statement.{statement}
-use Rattle.netting.proofs.net_member.Tie as tie
+use Rattle.netting.proofs.Appending.{eachFrom, runTable, run-start, run-appended, ofSecurity, security-next}
+use Rattle.netting.proofs.net_kind.Statement.{statement}
+use Rattle.netting.proofs.net_kind.Tie as tie
 
 abbrev Inv-loop : tie.InvT-loop
-Inv-loop rows₀ totals day member securities held n₀ security₀ rows n security =
-    Filling (memberTable (day .0) (totalsOf totals) member securities rows₀ held) (memberFrom (day .0) (totalsOf totals) member securities security) n (rowsOf rows) × (1 ≤ security) × (length rows ≡ 10240)
+Inv-loop rows₀ totals day member kind securities held n₀ security₀ rows n security =
+    Filling (runTable (ofSecurity (day .0) (totalsOf totals) member kind securities) securities rows₀ held) (eachFrom (ofSecurity (day .0) (totalsOf totals) member kind securities) securities security) n (rowsOf rows)
+    × (1 ≤ security)
+    × (length rows ≡ 11264)
 
 abbrev μ-loop : tie.MeasureT-loop
-μ-loop rows₀ totals day member securities held n₀ security₀ rows n security = securities + 1 - security
+μ-loop rows₀ totals day member kind securities held n₀ security₀ rows n security = securities + 1 - security
 
 -- the key of the security that is reached has its totals in the table
-fits : (y : tie.In-loop Inv-loop μ-loop) → KeyFits 32 (keyFor (y .before .before .args .member) (y .before .loop .security))
+fits : (y : tie.In-loop Inv-loop μ-loop) → KeyFits 32 (keyFor (y .before .before .args .member) (y .before .before .args .kind) (y .before .loop .security))
 fits y =
     let s = y .before .before .pre .0 in
     record { member = s .member-fits; security = record { above = y .before .loop .inv .1; below = omega (arith, y .loop-test .taken, s .securities-fit) } }
 
-in-table : (side : Side) (y : tie.In-loop Inv-loop μ-loop) → placeOf side (keyFor (y .before .before .args .member) (y .before .loop .security)) < 4032
-in-table side y = place-fits side (keyFor (y .before .before .args .member) (y .before .loop .security)) (fits y)
+in-table : (side : Side) (y : tie.In-loop Inv-loop μ-loop) → placeOf side (y .before .before .args .member) (y .before .loop .security) < 4032
+in-table side y = place-fits (y .before .before .args .kind) side (y .before .before .args .member) (y .before .loop .security) (fits y)
 
 -- and what they make is next
 module _ (x : tie.After-total-at2 Inv-loop μ-loop) where
   abbrev reached : tie.At-loop Inv-loop μ-loop
   reached = x .before .before .before .before .before
 
-  next : (ps : List Position) → (let a = reached .before .args in netFrom (a .day .0) (keyFor (a .member) (reached .loop .security)) (x .before .before .total-at .result) (x .total-at2 .result) ≡ ps
-      → Filling (memberTable (a .day .0) (totalsOf (a .totals .now)) (a .member) (a .securities) (a .rows .now) (a .held)) (ps ++ memberFrom (a .day .0) (totalsOf (a .totals .now)) (a .member) (a .securities) (reached .loop .security + 1)) (reached .loop .n) (rowsOf (reached .loop .rows)))
+  next : (ps : List Position) → (let a = reached .before .args in netFrom (a .day .0) (keyFor (a .member) (a .kind) (reached .loop .security)) (x .before .before .total-at .result) (x .total-at2 .result) ≡ ps
+      → Filling (runTable (ofSecurity (a .day .0) (totalsOf (a .totals .now)) (a .member) (a .kind) (a .securities)) (a .securities) (a .rows .now) (a .held)) (ps ++ eachFrom (ofSecurity (a .day .0) (totalsOf (a .totals .now)) (a .member) (a .kind) (a .securities)) (a .securities) (reached .loop .security + 1)) (reached .loop .n) (rowsOf (reached .loop .rows)))
   next ps e =
-      member-next _ _ _ _ _ (x .before .before .before .before .loop-test .taken) _ _
+      let a = reached .before .args in
+      security-next (a .day .0) (totalsOf (a .totals .now)) (a .member) (a .kind) (a .securities) (reached .loop .security) (x .before .before .before .before .loop-test .taken) _ _
       (rw (x .before .before .before .place-of .ensures) at (x .before .before .total-at .ensures))
       (rw (x .before .place-of2 .ensures) at (x .total-at2 .ensures)) ps e _ _ _ (reached .loop .inv .0)
 
@@ -55,7 +58,7 @@ placed c =
     omega (arith, length-rows (reached x .loop .rows), next-place _ _ _ _ _ (next x _ (c .position-of .ensures)))
 
 loop-holds : tie.Need-loop-holds Inv-loop μ-loop
-loop-holds c = (member-start _ _ _ _ _ _ (c .pre .0 .room), omega arith, c .pre .1)
+loop-holds c = (run-start _ _ _ _ (c .pre .0 .room), omega arith, c .pre .1)
 
 place-of-requires : tie.Need-place-of-requires Inv-loop μ-loop
 place-of-requires c κs = search needs
@@ -96,10 +99,10 @@ loop-again c =
     )
 
 returns : tie.Need-returns Inv-loop μ-loop
-returns c = let i = c .before .loop .inv in (member-appended _ _ _ _ _ _ _ (c .loop-test .left) _ _ (i .0), i .2)
+returns c = let i = c .before .loop .inv in (run-appended _ _ _ _ _ (c .loop-test .left) _ _ (i .0), i .2)
 
-pub net-member-spec : {M : Type 1} → statement M
-net-member-spec =
+pub net-kind-spec : {M : Type 1} → statement M
+net-kind-spec =
     tie.close
     (tie.spec
     Inv-loop
