@@ -51,6 +51,7 @@ fn exhaustive(tests: &mut Tests, calendar: &Calendar) {
     compare::prices::exhaustive(tests);
     compare::one_price::exhaustive(tests);
     compare::kinds::exhaustive(tests);
+    compare::cover::exhaustive(tests);
     compare::sheets::exhaustive(tests);
     compare::lines::exhaustive(tests);
     compare::page::exhaustive(tests);
@@ -75,6 +76,7 @@ fn seeded(round: &mut Round, calendar: &Calendar) {
     compare::prices::seeded(round);
     compare::one_price::seeded(round);
     compare::kinds::seeded(round);
+    compare::cover::seeded(round);
     compare::sheets::seeded(round);
     compare::lines::seeded(round);
     compare::page::seeded(round);

@@ -1,34 +1,42 @@
 -- The claim about histories: after every list of the calls from any opened book, refused ones included, in place or by value, with sheets of
 -- any length.
-use Prim.Native.Nat.{ℕ, suc, _-_, _≤_, _<_}
+use Prim.Native.Nat.{ℕ, suc, _+_, _-_, _≤_, _<_}
 use native.Mathlib.Omega.{arith}
 use mathlib.Core.Path.{_≡_, refl, ap, sym, _∙_, subst}
 use mathlib.Core.Logic.{_≢_}
 use mathlib.Core.Bool.{cond}
 use mathlib.Core.List.{List, _∷_, _++_, map}
 use lib.Seq.{take-length, length-take-le}
-use lib.ListN.{length}
-use borrow.Author.Tests.{le-ltb}
+use lib.ListN.{length, getD, length-append}
+use lib.Dec.{leb}
+use borrow.Author.Tests.{le-ltb, le-leb, lt-leb, leb-true, leb-false}
 use Rattle.laws.specs.Limits.{SECURITIES}
 use Rattle.laws.specs.Asked.{Said, passed, failed, ask, Within, within, both-bounds}
 use Rattle.register.specs.Accepted.{read-registered}
+use Rattle.events.specs.declared.Award as asked
+use Rattle.events.specs.declared.Event.{Event}
+use Rattle.events.specs.declared.Event.the-variants as event
 use Rattle.plain.specs.declared.Opening.{Opening}
 use Rattle.plain.specs.declared.LatestPrice.{LatestPrice}
 use Rattle.plain.specs.declared.Position.{Position}
+use Rattle.plain.specs.declared.Award.{Award}
 use Rattle.plain.specs.declared.Piece.{Piece}
 use Rattle.plain.specs.Book as plain
-use Rattle.plain.specs.Book.{openingRead, new, noPosition, positionOf, latestPrice}
-use Rattle.plain.specs.Calls.{Call}
+use Rattle.plain.specs.Book.{openingRead, new, noPosition, noAward, positionOf, latestPrice}
+use Rattle.plain.specs.Calls.{Call, call}
 use Rattle.plain.specs.Refusals.{refusal}
-use Rattle.plain.specs.Histories.{next, pieces, quantity, along, run, handed, acceptedEvents, formedBy, latestBy, balance}
+use Rattle.plain.specs.Histories.{eventOf, next, pieces, quantity, along, run, handed, acceptedEvents, formedBy, latestBy, balance}
+use Rattle.plain.specs.Cover.{added, Covered, Confirmed}
 use Rattle.plain.specs.Sound.{Sound}
-use Rattle.plain.proofs.Numbered.{nth-at}
-use Rattle.plain.proofs.Accepted.{next-keeps}
+use Rattle.plain.proofs.Numbered.{nth-at, nth-append, nth-behind}
+use Rattle.plain.proofs.Accepted.{award-taken, next-keeps}
 use Rattle.plain.proofs.Kept.{run-opening}
 use Rattle.plain.proofs.Prices.{given-today}
 use Rattle.plain.proofs.Sound.{done-sound, new-sound}
 use Rattle.plain.proofs.Discharges as discharges
 use Rattle.plain.proofs.Discharges.{discharge, one-price}
+use Rattle.plain.proofs.Covering.{covered}
+use Rattle.plain.proofs.Confirmed.{seller-pays}
 use Rattle.plain.proofs.Claim as told
 use Rattle.pieces.specs.Sheet.{piecesOf}
 use Rattle.pieces.proofs.Cells.{length-pieces}
@@ -36,12 +44,13 @@ use Rattle.kept.specs.View.{answer, numberOf, quantityOf}
 use Rattle.calls.specs.View.{Called}
 use Rattle.calls.specs.Answers.{answered-number, answered-quantity}
 use Rattle.calls.specs.declared.PositionAnswer.the-variants.{Found, Refused}
+use Rattle.calls.specs.declared.AwardAnswer.the-variants as award
 use Rattle.calls.specs.declared.PriceAnswer.the-variants as price
-use Rattle.calls.specs.Reading.{positionAnswer, priceAnswer, signed}
+use Rattle.calls.specs.Reading.{positionAnswer, awardAnswer, priceAnswer, signed}
 use Rattle.book.specs.View as whole
 use Rattle.book.proofs.Returns as book
 use Rattle.history.specs.Runs.{Stand, view, Return, piecesOn, Answers, bare, onNumbers, byValue, lent, Runs, stop, step, last, sheets, RunsTo, Begins, inPlace, asOneValue}
-use Rattle.history.specs.Claim.{Each, none, one, DealtOut, Fresh, PricedOnce, Kept, Filled, History}
+use Rattle.history.specs.Claim.{Onward, none, one, Each, DealtOut, Fresh, PricedOnce, answerIn, CheapestRead, SellerPaysLeast, Kept, Filled, History}
 
 -- What one call returned, with its pieces as the sheet has them: the same, however it was made
 
@@ -85,12 +94,18 @@ same-sheets stop = refl
 same-sheets (step {s = s} {c = c} {cs = cs} k rs) =
     rw (called k .returned .pieces) (ap (λ (l : List Piece). pieces (view s) c ++ l) (same-sheets rs ∙ ap (λ (p : plain.Book). handed p cs) (called k .returned .book)))
 
--- Each call of the list, where the history stood when it was made
+-- Each call of the list, where the history stood when it was made, with those that follow it
 
-module _ {P : Stand → Call → Return → Type 0} (p : (s : Stand) (c : Call) (r : Return) → Sound (view s) → Answers s c r → P s c r) where
-  every : {s : Stand} {cs : List Call} {rs : List Return} → Sound (view s) → Runs s cs rs → Each P s cs rs
-  every h stop = none
-  every h (step {s = s} {c = c} {r = r} k ks) = one (p s c r h k) (every (subst Sound (sym (called k .returned .book)) (next-keeps Sound done-sound (view s) c h)) ks)
+module _ {P : Stand → Call → Return → List Call → List Return → Type 0}
+    (p : (s : Stand) (c : Call) (r : Return) (cs : List Call) (rs : List Return) → Sound (view s) → Answers s c r → Runs (r .stand) cs rs → P s c r cs rs) where
+  onward : {s : Stand} {cs : List Call} {rs : List Return} → Sound (view s) → Runs s cs rs → Onward P s cs rs
+  onward h stop = none
+  onward h (step {s = s} {c = c} {r = r} {cs = cs} {rs = rs} k ks) =
+      one (p s c r cs rs h k ks) (onward (subst Sound (sym (called k .returned .book)) (next-keeps Sound done-sound (view s) c h)) ks)
+
+every : {P : Stand → Call → Return → Type 0} → ((s : Stand) (c : Call) (r : Return) → Sound (view s) → Answers s c r → P s c r)
+    → {s : Stand} {cs : List Call} {rs : List Return} → Sound (view s) → Runs s cs rs → Each P s cs rs
+every p h runs = onward (λ s c r cs rs h k ks. p s c r h k) h runs
 
 dealt-out : (s : Stand) (c : Call) (r : Return) → Sound (view s) → Answers s c r → DealtOut s c r
 dealt-out s c r h k e kind =
@@ -103,6 +118,43 @@ fresh s c r h k n e needs = given-today (view s) c n (h .standing .prices) (sym 
 
 priced-once : (s : Stand) (c : Call) (r : Return) → Sound (view s) → Answers s c r → PricedOnce s c r
 priced-once s c r h k x e is = rw (called k .returned .pieces) (one-price (view s) c x (sym (number k) ∙ e) is)
+
+-- awards that stand behind others: what the read answers to the numbers before them, and to theirs
+answers-earlier : (xs new : List Award) (i : ℕ) → i ≤ length xs → answerIn (xs ++ new) i ≡ answerIn xs i
+unfolding within
+answers-earlier xs new i h =
+    rw (le-leb i (length (xs ++ new)) (omega (arith, length-append xs new)), le-leb i (length xs) h, nth-append noAward xs new i h)
+
+answers-later : (xs new : List Award) (i : ℕ) → answerIn (xs ++ new) (suc (length xs) + i) ≡ answerIn new (suc i)
+unfolding within
+answers-later xs new i =
+    rw (nth-behind noAward xs new i, le-leb 1 (suc (length xs) + i) (omega arith), le-leb 1 (suc i) (omega arith)) (go (ask (leb (suc i) (length new))))
+  where
+    go : Said (leb (suc i) (length new))
+        → cond (leb (suc (length xs) + i) (length (xs ++ new))) (award.Found (getD new i noAward)) (award.Refused 11) ≡ cond (leb (suc i) (length new)) (award.Found (getD new i noAward)) (award.Refused 11)
+    go (passed t) = rw (t, le-leb (suc (length xs) + i) (length (xs ++ new)) (omega (arith, leb-true (suc i) (length new) t, length-append xs new)))
+    go (failed t) = rw (t, lt-leb (suc (length xs) + i) (length (xs ++ new)) (omega (arith, leb-false (suc i) (length new) t, length-append xs new)))
+
+-- the short of an award that was accepted is found
+award-short : (b : plain.Book) (c : Call) (a : asked.Award) → refusal b c ≡ 0 → eventOf c ≡ event.Award a → positionAnswer b (a .position) ≡ Found (positionOf b (a .position))
+unfolding within
+award-short b (call e sheet) a taken is =
+    let held = award-taken b a sheet (subst (λ (f : Event). refusal b (call f sheet) ≡ 0) is taken) .held in
+    rw (le-leb 1 (a .position) (held .above), le-leb (a .position) (length (b .positions)) (held .below))
+
+cheapest-read : (s : Stand) (c : Call) (r : Return) → Sound (view s) → Answers s c r → CheapestRead s c r
+cheapest-read s c r h k a e is =
+    let same : next (view s) c ≡ view (r .stand) = sym (called k .returned .book) in
+    let d : Covered (view s) (view (r .stand)) (a .position) (quantity (view s) c) = rw same at (covered (view s) c a (sym (number k) ∙ e) is) in
+    record {
+      short = positionOf (view s) (a .position);
+      found = award-short (view s) c a (sym (number k) ∙ e) is;
+      awards = added (view s) (view (r .stand));
+      earlier = λ i l. ap (λ (xs : List Award). answerIn xs i) (d .kept) ∙ answers-earlier (view s .awards) (added (view s) (view (r .stand))) i l;
+      later = λ i. ap (λ (xs : List Award). answerIn xs (suc (length (view s .awards)) + i)) (d .kept) ∙ answers-later (view s .awards) (added (view s) (view (r .stand))) i;
+      reported = reported k ∙ d .reported;
+      cheapest = d .cheapest;
+    }
 
 same-stand : (s z : Stand) → (z .core ≡ s .core) × (z .numbers ≡ s .numbers) → z ≡ s
 same-stand s z e i = record { core = e .0 i; numbers = e .1 i }
@@ -132,18 +184,39 @@ filled (lent k) = record { count = k .count; filled = k .sheet; kept = λ e. k .
 
 -- What the reads report
 
--- a position that is found is there, and is the book's
-read-found : (b : plain.Book) (n : ℕ) (p : Position) → positionAnswer b n ≡ Found p → (Within 1 (length (b .positions)) n) × (positionOf b n ≡ p)
-read-found b n p e = go (ask (plain.there (b .positions) n))
-  where
-    go : Said (plain.there (b .positions) n) → (Within 1 (length (b .positions)) n) × (positionOf b n ≡ p)
-    go (passed t) =
-        let same : Found (positionOf b n) ≡ Found p = rw t at e in
-        (both-bounds 1 (length (b .positions)) n t, (cc))
-    go (failed t) =
-        let none : Refused 11 ≡ Found p = rw t at e in
-        let z : _≡_ {A = ℕ} 0 1 = cc in
-        absurd (omega arith)
+-- what is found by its number is there, and is the book's
+module _ {A Answer : Type 0} (found : A → Answer) (refused' : Answer) (same : (x y : A) → found x ≡ found y → x ≡ y) (apart : (x : A) → refused' ≡ found x → ⊥) where
+  read-found : (d : A) (l : List A) (n : ℕ) (x : A) → cond (plain.there l n) (found (plain.nth d l n)) refused' ≡ found x → (Within 1 (length l) n) × (plain.nth d l n ≡ x)
+  read-found d l n x e = go (ask (plain.there l n))
+    where
+      go : Said (plain.there l n) → (Within 1 (length l) n) × (plain.nth d l n ≡ x)
+      go (passed t) = (both-bounds 1 (length l) n t, same (plain.nth d l n) x (rw t at e))
+      go (failed t) = absurd (apart x (rw t at e))
+
+position-found : (b : plain.Book) (n : ℕ) (p : Position) → positionAnswer b n ≡ Found p → (Within 1 (length (b .positions)) n) × (positionOf b n ≡ p)
+position-found b n p e =
+    read-found Found (Refused 11) (λ x y k. cc) (λ x k. let z : _≡_ {A = ℕ} 0 1 = cc in absurd (omega arith)) noPosition (b .positions) n p e
+
+award-found : (b : plain.Book) (n : ℕ) (x : Award) → awardAnswer b n ≡ award.Found x → plain.awardOf b n ≡ x
+award-found b n x e =
+    read-found award.Found (award.Refused 11) (λ x y k. cc) (λ x k. let z : _≡_ {A = ℕ} 0 1 = cc in absurd (omega arith)) noAward (b .awards) n x e .1
+
+seller-pays-least : (s : Stand) (c : Call) (r : Return) (cs : List Call) (rs : List Return) → Sound (view s) → Answers s c r → Runs (r .stand) cs rs → SellerPaysLeast s c r cs rs
+seller-pays-least s c r cs rs h k runs a e is day all =
+    let same : view (r .stand) ≡ next (view s) c = called k .returned .book in
+    let taken : refusal (view s) c ≡ 0 = sym (number k) ∙ e in
+    let grown : view (r .stand) .awards ≡ view s .awards ++ added (view s) (view (r .stand)) = rw same (covered (view s) c a taken is .kept) in
+    let many = length-append (view s .awards) (added (view s) (view (r .stand))) in
+    let confirmed : Confirmed (view s) (view (r .stand)) (view (last (r .stand) rs)) =
+    record {
+      today = day;
+      all = λ n w.
+          let x = all n (record { above = w .above; below = omega (arith, w .below, many, ap length grown) }) in
+          ap (λ (y : Award). y .confirmed) (award-found (view (last (r .stand) rs)) n (x .award') (x .found)) ∙ x .confirmed;
+    } in
+    let agreed : view (last (r .stand) rs) ≡ run (next (view s) c) cs = agrees runs ∙ ap (λ (p : plain.Book). run p cs) same in
+    let there = subst (λ (p : plain.Book). Confirmed (view s) (view (r .stand)) p) agreed confirmed in
+    rw same (seller-pays (view s) c a cs h taken is (subst (λ (p : plain.Book). Confirmed (view s) p (run (next (view s) c) cs)) same there))
 
 -- the latest price of a security that is registered, and refusal 10 of any other
 read-latest : (b : plain.Book) (opening : Opening) (given : ℕ → LatestPrice) → b .opening ≡ opening → opening .register .count ≤ SECURITIES
@@ -188,7 +261,7 @@ claim opening {s} {cs} {rs} e few runs =
       book = same;
       netted = rw (same, given) (λ i h. sym (claim .netted i) ∙ claim .tallied i h);
       open-units = λ n p found.
-          let f = read-found (view (last s rs)) n p found in
+          let f = position-found (view (last s rs)) n p found in
           let place : suc (n - 1) ≡ n = omega (arith, f .0 .above) in
           let here : n - 1 < length (run (new opening) cs .positions) = omega (arith, f .0 .above, f .0 .below, ap (λ (p : plain.Book). length (p .positions)) same) in
           rw (given, ← f .1, same, nth-at noPosition (formedBy opening (acceptedEvents (new opening) cs)) n (f .0 .above), nth-at noPosition (run (new opening) cs .positions) n (f .0 .above))
@@ -200,6 +273,9 @@ claim opening {s} {cs} {rs} e few runs =
       dealt = all-same piecesOn pieces (λ s c r k. called k .returned .pieces) (new opening) e runs;
       discharges = every dealt-out sound runs;
       one-price = every priced-once sound runs;
+      offers = rw same (claim .offers);
+      cheapest = every cheapest-read sound runs;
+      pays-least = onward seller-pays-least sound runs;
       accounts = rw same (claim .accounts');
       balances = λ k h. rw (le-ltb 63 k (omega arith)) (ap signed (ap (λ (p : plain.Book). balance p k) same ∙ claim .accounts' k h));
       zero-sum = rw same (claim .zero-sum);

@@ -1,6 +1,6 @@
 -- Document 01, 'The plain book': "Demand 3 is a single claim about the list (also called a history), not one for each call." What it says of every
 -- list of calls from any opened book, refused ones included, in place or by value, with sheets of any length.
-use Prim.Native.Nat.{ℕ, suc, _+_, _<_}
+use Prim.Native.Nat.{ℕ, suc, _+_, _≤_, _<_}
 use mathlib.Core.Path.{_≡_}
 use mathlib.Core.Logic.{_≢_}
 use mathlib.Core.List.{List, [], _∷_, _++_, map}
@@ -11,33 +11,42 @@ use Rattle.laws.specs.Limits.{ACCOUNTS, MEMBERS}
 use Rattle.laws.specs.Asked.{Within, within}
 use Rattle.laws.specs.Lists.{All, range, sum}
 use Rattle.laws.specs.Integers.{sumℤ}
+use Rattle.events.specs.declared.Award as asked
 use Rattle.events.specs.declared.Cash.{Cash}
 use Rattle.events.specs.declared.Event.the-variants as event
 use Rattle.plain.specs.declared.Opening.{Opening}
 use Rattle.plain.specs.declared.Kind.{Kind}
 use Rattle.plain.specs.declared.Position.{Position}
+use Rattle.plain.specs.declared.Award.{Award}
 use Rattle.plain.specs.declared.Piece.{Piece}
-use Rattle.plain.specs.Book.{new, noPosition, nth, positionOf}
+use Rattle.plain.specs.Book.{Book, new, noPosition, noAward, nth, there, positionOf}
 use Rattle.plain.specs.Netting.{kindNumber}
 use Rattle.plain.specs.Dealing.{manners, takenBy, fresh}
 use Rattle.plain.specs.Charging.{creditOf, debitOf}
 use Rattle.plain.specs.Calls.{Call, isDischarge, shortOf}
 use Rattle.plain.specs.Refusals.{refusal}
-use Rattle.plain.specs.Histories.{eventOf, pieces, quantity, along, refusals, quantities, run, allCharges, acceptedEvents, formedBy, tradesOn, latestBy, balance}
+use Rattle.plain.specs.Histories.{eventOf, pieces, quantity, along, refusals, quantities, run, allCharges, acceptedEvents, formedBy, tradesOn, latestBy, offersBy, balance}
+use Rattle.plain.specs.Cover.{unitsOf, Cheapest, added, PaysLeast, confirmationsOf}
 use Rattle.plain.specs.Invariants.{DueLong, NeedsPrice, GivenToday}
 use Rattle.plain.specs.Sound.{Small}
 use Rattle.plain.specs.Claim.{OnePrice, NettedByKind}
 use Rattle.pieces.specs.Sheet.{piecesOf}
 use Rattle.kept.specs.View.{answer, numberOf, quantityOf}
 use Rattle.calls.specs.declared.PositionAnswer.the-variants.{Found}
+use Rattle.calls.specs.declared.AwardAnswer.{AwardAnswer}
+use Rattle.calls.specs.declared.AwardAnswer.the-variants as award
 use Rattle.calls.specs.declared.PriceAnswer.the-variants as price
-use Rattle.calls.specs.Reading.{positionAnswer, priceAnswer, signed, balanceAnswer}
+use Rattle.calls.specs.Reading.{positionAnswer, awardAnswer, priceAnswer, signed, balanceAnswer}
 use Rattle.history.specs.Runs.{Stand, view, Sheet, noSheet, numberSheet, pieceSheet, handedBack, Return, piecesOn, last, sheets}
 
--- what is said of each call of a list
-pub data Each (P : Stand → Call → Return → Type 0) : Stand → List Call → List Return → Type 0 where
-  none : {s : Stand} → Each P s [] []
-  one : {s : Stand} {c : Call} {r : Return} {cs : List Call} {rs : List Return} → P s c r → Each P (r .stand) cs rs → Each P s (c ∷ cs) (r ∷ rs)
+-- what is said of each call of a list, with the calls that follow it and what they returned
+pub data Onward (P : Stand → Call → Return → List Call → List Return → Type 0) : Stand → List Call → List Return → Type 0 where
+  none : {s : Stand} → Onward P s [] []
+  one : {s : Stand} {c : Call} {r : Return} {cs : List Call} {rs : List Return} → P s c r cs rs → Onward P (r .stand) cs rs → Onward P s (c ∷ cs) (r ∷ rs)
+
+-- what is said of each call by itself
+abbrev pub Each : (Stand → Call → Return → Type 0) → Stand → List Call → List Return → Type 0
+Each P = Onward (λ s c r cs rs. P s c r)
 
 -- an accepted discharge's pieces add up to the quantity that it reports, and run from its short to due longs of that short's security
 pub record Dealt (s : Stand) (c : Call) (r : Return) : Type 0 where
@@ -55,6 +64,37 @@ Fresh s c r = (n : ℕ) → numberOf (r .outcome) ≡ 0 → NeedsPrice (eventOf 
 -- of a cash settlement that was accepted: all its pieces have one price, the highest term of the rule
 abbrev pub PricedOnce : Stand → Call → Return → Type 0
 PricedOnce s c r = (x : Cash) → numberOf (r .outcome) ≡ 0 → eventOf c ≡ event.Cash x → OnePrice (view s) (x .position) (piecesOn r)
+
+-- what the public read answers to a number, of these awards
+abbrev pub answerIn : List Award → ℕ → AwardAnswer
+answerIn awards n = cond (there awards n) (award.Found (nth noAward awards n)) (award.Refused 11)
+
+-- of an award for short n that was accepted: the awards that the public read answers after it, beyond those that it answered before, are the cheapest
+-- cover of what it answered to be open of the short
+pub record CoverRead (s : Stand) (n : ℕ) (r : Return) : Type 0 where
+  pub short : Position
+  pub found : positionAnswer (view s) n ≡ Found short
+  pub awards : List Award
+  pub earlier : (i : ℕ) → i ≤ length (view s .awards) → awardAnswer (view (r .stand)) i ≡ awardAnswer (view s) i
+  pub later : (i : ℕ) → awardAnswer (view (r .stand)) (suc (length (view s .awards)) + i) ≡ answerIn awards (suc i)
+  pub reported : quantityOf (r .outcome) ≡ unitsOf awards
+  pub cheapest : Cheapest (short .unsettled) (view s .auction .offers) awards
+
+abbrev pub CheapestRead : Stand → Call → Return → Type 0
+CheapestRead s c r = (a : asked.Award) → numberOf (r .outcome) ≡ 0 → eventOf c ≡ event.Award a → CoverRead s (a .position) r
+
+-- award n is confirmed, as the public read answers
+pub record ReadConfirmed (b : Book) (n : ℕ) : Type 0 where
+  pub award' : Award
+  pub found : awardAnswer b n ≡ award.Found award'
+  pub confirmed : award' .confirmed ≡ true
+
+-- of an award that was accepted: once the calls that follow have confirmed, on the same day, all that it awarded, the seller was charged least
+abbrev pub SellerPaysLeast : Stand → Call → Return → List Call → List Return → Type 0
+SellerPaysLeast s c r cs rs =
+    (a : asked.Award) → numberOf (r .outcome) ≡ 0 → eventOf c ≡ event.Award a → view (last (r .stand) rs) .day ≡ view s .day
+    → ((n : ℕ) → Within (suc (length (view s .awards))) (length (view (r .stand) .awards)) n → ReadConfirmed (view (last (r .stand) rs)) n)
+    → PaysLeast (view s) (a .position) (added (view s) (view (r .stand))) (confirmationsOf (view s) (view (r .stand)) cs)
 
 -- "A refused call changes nothing": core and tables are the very same
 abbrev pub Kept : Stand → Call → Return → Type 0
@@ -111,11 +151,17 @@ pub record History (opening : Opening) (s : Stand) (cs : List Call) (rs : List R
   pub discharges : Each DealtOut s cs rs
   -- and each accepted cash settlement has one price for all its pieces
   pub one-price : Each PricedOnce s cs rs
+  -- the offers of the running auction, in order of arrival, come from the accepted attempts, offers and awards alone
+  pub offers : view (last s rs) .auction .offers ≡ offersBy (acceptedEvents (new opening) cs)
+  -- each accepted award made, of the offers of its auction, the cheapest cover of its short
+  pub cheapest : Each CheapestRead s cs rs
   -- 4. every account is the charging rules summed over the list
   pub accounts : (k : ℕ) → k < ACCOUNTS → balance (view (last s rs)) k ≡ subℕ (creditOf k (allCharges (new opening) cs)) (debitOf k (allCharges (new opening) cs))
   -- the same of what the public read reports of an account
   pub balances : (k : ℕ) → k < ACCOUNTS
       → balanceAnswer (view (last s rs)) k ≡ signed (subℕ (creditOf k (allCharges (new opening) cs)) (debitOf k (allCharges (new opening) cs)))
+  -- and by the confirmations of what an award made, once there is one of each, its seller is charged least
+  pub pays-least : Onward SellerPaysLeast s cs rs
   -- 5. all 64 accounts add up to zero, and none leaves plus or minus 10^17 cents
   pub zero-sum : sumℤ (balance (view (last s rs))) (range 0 ACCOUNTS) ≡ pos 0
   pub small : (k : ℕ) → Small (view (last s rs)) k

@@ -7,7 +7,7 @@ use mathlib.Core.List.{List, [], _∷_, _++_, map}
 use mathlib.Core.Bool.{Bool, true, false, _||_, or-assoc, or-true, true≢false}
 use lib.ListN.{length, getD, set, replicate}
 use Rattle.laws.specs.Asked.{Said, passed, failed, ask}
-use Rattle.laws.specs.Lists.{range, keep, each, number, some, All}
+use Rattle.laws.specs.Lists.{range, keep, filter, each, number, some, All}
 
 module _ {A : Type 0} where
   pub all-append : (P : A → Type 0) (xs ys : List A) → All P xs → All P ys → All P (xs ++ ys)
@@ -17,6 +17,10 @@ module _ {A : Type 0} where
   pub all-keep : (P : A → Type 0) (b : Bool) (x : A) (xs : List A) → (b ≡ true → P x) → All P xs → All P (keep b x xs)
   all-keep P true x xs h k = (h refl, k)
   all-keep P false x xs h k = k
+
+  pub all-filter : (P Q : A → Type 0) (p : A → Bool) (xs : List A) → ((x : A) → p x ≡ true → P x → Q x) → All P xs → All Q (filter p xs)
+  all-filter P Q p [] f h = tt
+  all-filter P Q p (x ∷ xs) f h = all-keep Q (p x) x (filter p xs) (λ e. f x e (h .0)) (all-filter P Q p xs f (h .1))
 
   pub all-of : (P Q : A → Type 0) (xs : List A) → ((x : A) → P x → Q x) → All P xs → All Q xs
   all-of P Q [] f h = tt

@@ -1,7 +1,7 @@
 -- Tests that were asked: a Bool with what it said, what a joined test says of its parts, and the test that a number is low to high.
 use Prim.Native.Nat.{ℕ, _≤_}
 use mathlib.Core.Path.{_≡_, refl, sym, _∙_}
-use mathlib.Core.Bool.{Bool, true, false, not, _&&_, _||_, true≢false}
+use mathlib.Core.Bool.{Bool, true, false, not, cond, _&&_, _||_, true≢false}
 use lib.Dec.{leb}
 use borrow.Author.Tests.{leb-true}
 
@@ -13,6 +13,11 @@ pub data Said (b : Bool) : Type 0 where
 pub ask : (b : Bool) → Said b
 ask true = passed refl
 ask false = failed refl
+
+-- what holds of both choices, each where the test says so, holds of the one that is taken
+pub decided : {A : Type 0} (P : A → Type 0) (t : Bool) (x y : A) → (t ≡ true → P x) → (t ≡ false → P y) → P (cond t x y)
+decided P true x y h k = h refl
+decided P false x y h k = k refl
 
 pub and-left : (a b : Bool) → a && b ≡ true → a ≡ true
 and-left true b e = refl

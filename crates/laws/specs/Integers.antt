@@ -39,14 +39,15 @@ pub sum-sub : {A : Type 0} (f g : A → ℕ) (xs : List A) → sumℤ (λ x. sub
 sum-sub f g [] = refl
 sum-sub f g (x ∷ xs) = ap (λ (k : ℤ). subℕ (f x) (g x) +ℤ k) (sum-sub f g xs) ∙ sub-add (f x) (g x) (sum f xs) (sum g xs)
 
--- a list's total is the sum over its places
-places-from : (l : List ℕ) (a : ℕ) (f : ℕ → ℕ) → ((i : ℕ) → f (a + i) ≡ getD l i 0) → sum f (range a (length l)) ≡ total l
-places-from [] a f h = refl
-places-from (x ∷ l) a f h =
-    omega (arith, h 0, ap f (add-zero a), places-from l (suc a) f (λ i. ap f (omega arith) ∙ h (suc i)))
+-- a sum over a list is a sum over its places, from whatever number they are counted
+pub sum-from : {A : Type 0} (f : A → ℕ) (d : A) (l : List A) (a : ℕ) (g : ℕ → ℕ) → ((i : ℕ) → g (a + i) ≡ f (getD l i d)) → sum g (range a (length l)) ≡ sum f l
+sum-from f d [] a g h = refl
+sum-from f d (x ∷ l) a g h =
+    omega (arith, h 0, ap g (add-zero a), sum-from f d l (suc a) g (λ i. ap g (omega arith) ∙ h (suc i)))
 
 pub sum-places : (l : List ℕ) (n : ℕ) → length l ≡ n → sum (λ k. getD l k 0) (range 0 n) ≡ total l
-sum-places l n e = rw (← e) (places-from l 0 (λ k. getD l k 0) (λ i. ap (λ (k : ℕ). getD l k 0) (omega arith)))
+sum-places l n e =
+    rw (← e) (sum-from (λ n. n) 0 l 0 (λ k. getD l k 0) (λ i. ap (λ (k : ℕ). getD l k 0) (omega arith)))
 
 -- no place is above the total
 pub place-le : (l : List ℕ) (k : ℕ) → getD l k 0 ≤ total l

@@ -6,6 +6,7 @@ pub mod Words
 pub mod Listed
 pub mod Sums
 pub mod Alls
+pub mod Reordered
 pub mod Highest
 pub mod Places
 pub mod Integers

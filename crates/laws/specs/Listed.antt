@@ -1,5 +1,5 @@
 -- Laws of lists: sums, ranges, tests over a list, numbered lists.
-use Prim.Native.Nat.{ℕ, zero, suc, _+_, _-_, _<_}
+use Prim.Native.Nat.{ℕ, zero, suc, _+_, _-_, _≤_, _<_}
 use native.Mathlib.Nat.{add-zero}
 use native.Mathlib.Omega.{arith}
 use mathlib.Core.Path.{_≡_, refl, ap, sym, _∙_}
@@ -35,6 +35,14 @@ module _ {A : Type 0} where
   pub each-empty : {B : Type 0} (ys : List B) → each {A = A} (λ y. []) ys ≡ []
   each-empty [] = refl
   each-empty (y ∷ ys) = each-empty ys
+
+  keep-length : (b : Bool) (x : A) (xs : List A) (n : ℕ) → length xs ≤ n → length (keep b x xs) ≤ suc n
+  keep-length true x xs n h = omega arith
+  keep-length false x xs n h = omega arith
+
+  pub filter-length : (p : A → Bool) (xs : List A) → length (filter p xs) ≤ length xs
+  filter-length p [] = omega arith
+  filter-length p (x ∷ xs) = keep-length (p x) x (filter p xs) (length xs) (filter-length p xs)
 
   filter-joined : (b : Bool) (x : A) (l xs ys : List A) → l ≡ xs ++ ys → keep b x l ≡ keep b x xs ++ ys
   filter-joined true x l xs ys e = ap (λ (k : List A). x ∷ k) e

@@ -6,10 +6,10 @@ use mathlib.Core.Logic.{_≢_}
 use mathlib.Core.List.{List, [], _∷_, map}
 use mathlib.Core.Bool.{Bool, true, false, _&&_}
 use lib.ListN.{length, length-append}
-use lib.Dec.{eqb}
-use borrow.Author.Tests.{ne-eqb, eqb-true, eqb-false}
+use lib.Dec.{leb, eqb}
+use borrow.Author.Tests.{ne-eqb, eqb-true, eqb-false, leb-true, leb-false}
 use Rattle.laws.specs.Lists.{only, range, keep, sum, each, All}
-use Rattle.laws.specs.Asked.{Said, passed, failed, ask}
+use Rattle.laws.specs.Asked.{Said, passed, failed, ask, within}
 use Rattle.laws.specs.Listed.{sum-append}
 
 pub only-zero : (b : Bool) → only b 0 ≡ 0
@@ -119,3 +119,17 @@ sum-once k c a (suc n) = go (ask (eqb k a)) (sum-once k c (suc a) n)
     go : Said (eqb k a) → sum (λ j. only (eqb k j) c) (range (suc a) n) ≤ c → only (eqb k a) c + sum (λ j. only (eqb k j) c) (range (suc a) n) ≤ c
     go (passed e) ih = simp e (omega (arith, sum-none k c (suc a) n (omega (arith, eqb-true k a e))))
     go (failed e) ih = simp e (omega (arith, ih))
+
+-- a number counts once in a range that it lies in, and not in another
+pub sum-within : (k c a n : ℕ) → sum (λ j. only (eqb k j) c) (range (suc a) n) ≡ only (within (suc a) (a + n) k) c
+unfolding within
+sum-within k c a n = go (ask (leb (suc a) k)) (ask (leb k (a + n)))
+  where
+    past : (m i : ℕ) → m + i ≤ k → sum (λ j. only (eqb k j) c) (range m i) ≡ 0
+    past m zero l = refl
+    past m (suc i) l = simp (ne-eqb k m (omega arith)) (omega (arith, past (suc m) i (omega arith)))
+
+    go : Said (leb (suc a) k) → Said (leb k (a + n)) → sum (λ j. only (eqb k j) c) (range (suc a) n) ≡ only (leb (suc a) k && leb k (a + n)) c
+    go (passed s) (passed t) = simp (s, t) (sum-one k c (suc a) n (leb-true (suc a) k s) (omega (arith, leb-true k (a + n) t)))
+    go (passed s) (failed t) = simp (s, t) (past (suc a) n (omega (arith, leb-false k (a + n) t)))
+    go (failed s) said = simp s (sum-none k c (suc a) n (leb-false (suc a) k s))

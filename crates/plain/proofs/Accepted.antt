@@ -1,9 +1,9 @@
 -- What an accepted call tells: each of its reasons does not apply. And what holds of every history, where each accepted call keeps it.
 use Prim.Native.Nat.{ℕ, zero, suc, _+_, _≤_, _<_}
 use native.Mathlib.Omega.{arith}
-use mathlib.Core.Path.{_≡_, refl}
+use mathlib.Core.Path.{_≡_, refl, _∙_}
 use mathlib.Core.Logic.{_≢_}
-use mathlib.Core.List.{List, [], _∷_}
+use mathlib.Core.List.{List, [], _∷_, _++_}
 use mathlib.Core.Bool.{true, false}
 use lib.ListN.{length}
 use lib.Dec.{eqb}
@@ -21,13 +21,14 @@ use Rattle.events.specs.declared.Offer.{Offer}
 use Rattle.events.specs.declared.Award as asked
 use Rattle.events.specs.declared.Confirm.{Confirm}
 use Rattle.events.specs.declared.Cash.{Cash}
+use Rattle.events.specs.declared.Event.{Event}
 use Rattle.events.specs.declared.Event.the-variants as event
 use Rattle.plain.specs.Book.{Book, positionOf, awardOf, latestPrice}
 use Rattle.plain.specs.Dealing.{due}
 use Rattle.plain.specs.Auction.{failing, unconfirmed}
 use Rattle.plain.specs.Calls.{Call, call, done}
 use Rattle.plain.specs.Refusals.{isOneParty, hasKinds, isNever, isGivenBefore, stepToday, free, runsOn, reasons, refusal}
-use Rattle.plain.specs.Histories.{eventOf, next, run}
+use Rattle.plain.specs.Histories.{eventOf, next, run, acceptedEvents}
 
 -- what 19 and 32 leave: a price was given, and not before today
 pub record PricePassed (b : Book) (security : ℕ) : Type 0 where
@@ -217,3 +218,17 @@ module _ (P : Book → Type 0) (step : (b : Book) (c : Call) → refusal b c ≡
   unfolding run
   run-keeps b [] h = h
   run-keeps b (c ∷ cs) h = run-keeps (next b c) cs (next-keeps b c h)
+
+-- What a book and the events still to come tell, where an accepted call tells the same with its event still to come: a history tells it of the events
+-- that were accepted
+module _ {A : Type 0} (tell : Book → List Event → A) (P : Book → Type 0) (keeps : (b : Book) (c : Call) → refusal b c ≡ 0 → P b → P (done b (eventOf c)))
+    (step : (b : Book) (c : Call) → refusal b c ≡ 0 → P b → (es : List Event) → tell (done b (eventOf c)) es ≡ tell b (eventOf c ∷ es)) where
+  either-tells : (n : ℕ) (b : Book) (c : Call) → refusal b c ≡ n → P b → (es : List Event) → tell (accepted n (done b (eventOf c)) b) es ≡ tell b (accepted n (eventOf c ∷ []) [] ++ es)
+  either-tells zero b c e h es = step b c e h es
+  either-tells (suc n) b c e h es = refl
+
+  pub run-tells : (b : Book) (cs : List Call) → P b → tell (run b cs) [] ≡ tell b (acceptedEvents b cs)
+  unfolding run acceptedEvents
+  run-tells b [] h = refl
+  run-tells b (c ∷ cs) h =
+      run-tells (next b c) cs (next-keeps P keeps b c h) ∙ unfold next in either-tells (refusal b c) b c refl h (acceptedEvents (next b c) cs)

@@ -233,8 +233,8 @@ house = omega arith
 
 charge-booked : (member : ℕ) (a : Amount) → member < 64 → Booked (charge member a)
 unfolding charge
-charge-booked member (Debit n) h = record { payer = h; payee = house }
-charge-booked member (Credit n) h = record { payer = house; payee = h }
+charge-booked member (Debit n) h = record { payer = omega arith; payee = omega arith }
+charge-booked member (Credit n) h = record { payer = omega arith; payee = omega arith }
 
 module _ (b : Book) (h : Accountable b) where
   member-account : (n : ℕ) → positionOf b n .member < 64

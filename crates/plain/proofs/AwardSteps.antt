@@ -1,17 +1,17 @@
 -- Each accepted call keeps what is known of the auction, the marks and the awards; and each discharge may be dealt out.
-use Prim.Native.Nat.{ℕ, suc, _+_, _-_, _≤_, _<_, min}
+use Prim.Native.Nat.{ℕ, suc, _+_, _-_, _≤_, _<_}
 use native.Mathlib.Omega.{arith}
 use mathlib.Core.Path.{_≡_, refl, ap, sym, _∙_}
 use mathlib.Core.Logic.{_≢_}
 use mathlib.Core.List.{List, [], _∷_, _++_}
 use mathlib.Core.Bool.{Bool, true, false, not, cond, _&&_, _||_, true≢false}
 use lib.ListN.{length, getD, length-append}
-use lib.Dec.{ltb, leb, eqb}
+use lib.Dec.{ltb, eqb}
 use borrow.Author.Tests.{eq-eqb, ne-eqb, eqb-true, eqb-false, ltb-true, lt-ltb, le-ltb}
-use Rattle.laws.specs.Lists.{All, only, keep, some, sum, number}
-use Rattle.laws.specs.Asked.{Said, passed, failed, ask, and-left, and-right}
-use Rattle.laws.specs.Sums.{only-le, sum-keep}
-use Rattle.laws.specs.Alls.{all-append, all-keep, all-of, all-number, length-number, some-append, some-last}
+use Rattle.laws.specs.Lists.{All, only, some, sum, number}
+use Rattle.laws.specs.Asked.{Said, passed, failed, ask, decided, and-left, and-right}
+use Rattle.laws.specs.Sums.{only-le, sum-le}
+use Rattle.laws.specs.Alls.{all-append, all-of, all-number, length-number, some-append, some-last}
 use Rattle.rules.specs.Prices.{ceiling}
 use Rattle.register.specs.declared.Register.{Register}
 use Rattle.events.specs.declared.Offer.{Offer}
@@ -26,14 +26,17 @@ use Rattle.plain.specs.declared.Award.{Award}
 use Rattle.plain.specs.declared.Manner.{Manner}
 use Rattle.plain.specs.Book.{Book, Auction, noAuction, noPosition, noAward, positionOf, awardOf, nth}
 use Rattle.plain.specs.Dealing.{lowering}
-use Rattle.plain.specs.Auction.{insert, byPrice, awarded, unconfirmed, confirmedAward}
+use Rattle.plain.specs.Auction.{byPrice, awardFor, awarded, unconfirmed, confirmedAward}
 use Rattle.plain.specs.Calls.{auctionAwards}
+use Rattle.plain.specs.Cover.{unitsOf, Cheapest}
 use Rattle.plain.specs.Refusals.{stepToday, free, runsOn}
 use Rattle.plain.proofs.Accepted.{DeliveryTaken, AttemptTaken, OfferTaken, AwardTaken, ConfirmTaken, CashTaken}
 use Rattle.plain.specs.Invariants.{Dealable, Deals, OfferFits, AwardFits}
 use Rattle.plain.specs.Sound.{kindOn, Marked, marked, Auctioned, AuctionedBook}
 use Rattle.plain.proofs.Awards.{window-due, none-on, unconfirmed-append, award-marked, unmarked-free, marked-lowered, covered-lowered}
 use Rattle.plain.proofs.Numbered.{nth-at, place-nth}
+use Rattle.plain.proofs.Cover as cheapest'
+use Rattle.plain.proofs.Cover.{awards-all, awards-few}
 
 -- an auction that runs on n
 pub runs-on : (b : Book) (n : ℕ) → runsOn (b .auction .position) n ≡ true → (0 < b .auction .position) × (b .auction .position ≡ n)
@@ -92,71 +95,14 @@ offer-keeps b o t h =
 
 -- Award
 
-chosen : {A : Type 0} (P : A → Type 0) (t : Bool) (x y : A) → P x → P y → P (cond t x y)
-chosen P true x y h k = h
-chosen P false x y h k = k
-
-insert-all : (P : Offer → Type 0) (o : Offer) (xs : List Offer) → P o → All P xs → All P (insert o xs)
-unfolding insert
-insert-all P o [] h k = (h, tt)
-insert-all P o (x ∷ xs) h k =
-    chosen (All P) (leb (x .price) (o .price)) (x ∷ insert o xs) (o ∷ x ∷ xs) (k .0, insert-all P o xs h (k .1)) (h, k)
-
-insert-length : (o : Offer) (xs : List Offer) → length (insert o xs) ≡ suc (length xs)
-unfolding insert
-insert-length o [] = refl
-insert-length o (x ∷ xs) =
-    chosen (λ l. length l ≡ suc (suc (length xs))) (leb (x .price) (o .price)) (x ∷ insert o xs) (o ∷ x ∷ xs) (ap suc (insert-length o xs)) refl
-
-pub byPrice-all : (P : Offer → Type 0) (xs ys : List Offer) → All P xs → All P ys → All P (byPrice xs ys)
-unfolding byPrice
-byPrice-all P xs [] h k = h
-byPrice-all P xs (o ∷ ys) h k = byPrice-all P (insert o xs) ys (insert-all P o xs (k .0) h) (k .1)
-
-pub byPrice-length : (xs ys : List Offer) → length (byPrice xs ys) ≡ length xs + length ys
-unfolding byPrice
-byPrice-length xs [] = omega arith
-byPrice-length xs (o ∷ ys) = omega (arith, byPrice-length (insert o xs) ys, insert-length o xs)
-
-award-of : Offer → ℕ → Award
-award-of o q = record { position = o .position; offerer = o .offerer; quantity = q; price = o .price; confirmed = false }
-
-awarded-all : (P : Award → Type 0) (Q : Offer → Type 0) → ((o : Offer) (q : ℕ) → 0 < q → q ≤ o .quantity → Q o → P (award-of o q)) → (left : ℕ) (os : List Offer) → All Q os → All P (awarded left os)
-unfolding awarded award-of
-awarded-all P Q f left [] h = tt
-awarded-all P Q f left (o ∷ os) h =
-    all-keep P (ltb 0 (min (o .quantity) left)) (award-of o (min (o .quantity) left)) (awarded (left - min (o .quantity) left) os)
-    (λ e. f o (min (o .quantity) left) (ltb-true 0 (min (o .quantity) left) e) (omega arith) (h .0))
-    (awarded-all P Q f (left - min (o .quantity) left) os (h .1))
-
-keep-length : {A : Type 0} (t : Bool) (x : A) (xs : List A) → length (keep t x xs) ≤ suc (length xs)
-keep-length true x xs = omega arith
-keep-length false x xs = omega arith
-
-awarded-length : (left : ℕ) (os : List Offer) → length (awarded left os) ≤ length os
-unfolding awarded award-of
-awarded-length left [] = omega arith
-awarded-length left (o ∷ os) =
-    omega (arith, keep-length (ltb 0 (min (o .quantity) left)) (award-of o (min (o .quantity) left)) (awarded (left - min (o .quantity) left) os), awarded-length (left - min (o .quantity) left) os)
-
--- what is awarded of a position is at most what was open
-awarded-sum : (n left : ℕ) (os : List Offer) → unconfirmed n (awarded left os) ≤ left
-unfolding awarded award-of unconfirmed
-awarded-sum n left [] = omega arith
-awarded-sum n left (o ∷ os) =
-    omega (
-      arith,
-      sum-keep (λ a. only (eqb (a .position) n && not (a .confirmed)) (a .quantity)) (ltb 0 q) (award-of o q) (awarded (left - q) os),
-      only-le (ltb 0 q) (only (eqb (o .position) n && true) q),
-      only-le (eqb (o .position) n && true) q,
-      awarded-sum n (left - q) os,
-    )
-  where
-    q : ℕ
-    q = min (o .quantity) left
+unconfirmed-most : (n : ℕ) (awards : List Award) → unconfirmed n awards ≤ unitsOf awards
+unfolding unconfirmed
+unconfirmed-most n awards =
+    sum-le (λ a. only (eqb (a .position) n && not (a .confirmed)) (a .quantity)) (λ a. a .quantity) awards
+    (λ a. only-le (eqb (a .position) n && not (a .confirmed)) (a .quantity))
 
 pub award-keeps : (b : Book) (a : asked.Award) → AwardTaken b a → AuctionedBook b → Auctioned (b .opening .register) (b .day) (b .positions) noAuction (b .awards ++ auctionAwards b) (b .marks)
-unfolding auctionAwards award-of
+unfolding auctionAwards
 award-keeps b a t h =
     record {
       marks-fit = h .marks-fit;
@@ -165,9 +111,9 @@ award-keeps b a t h =
       auction-first = λ l. absurd (omega arith);
       offers-fit = tt;
       few-offers = omega arith;
-      awards-fit = all-append AwardFits (b .awards) new (h .awards-fit) (awarded-all AwardFits (OfferFits (b .auction)) (λ o q l m f. record { offerer = f .offerer; quantity = record { above = l; below = omega (arith, f .quantity .below) }; price = f .price }) open' offers offers-fit);
-      awards-marked = all-append (λ x. marked (b .marks) (x .position) ≡ true) (b .awards) new (h .awards-marked) (awarded-all (λ x. marked (b .marks) (x .position) ≡ true) (OfferFits (b .auction)) (λ o q l m f. rw (f .position) (h .auction-marked (on .0))) open' offers offers-fit);
-      few-awards = omega (arith, h .few-awards, ap (λ (t : Bool). only t 16) (lt-ltb 0 (b .auction .position) (on .0)), h .few-offers, length-append (b .awards) new, awarded-length open' offers, byPrice-length [] (b .auction .offers));
+      awards-fit = all-append AwardFits (b .awards) new (h .awards-fit) (new-all AwardFits (λ o q l m f. record { offerer = f .offerer; quantity = record { above = l; below = omega (arith, f .quantity .below) }; price = f .price }));
+      awards-marked = all-append (λ x. marked (b .marks) (x .position) ≡ true) (b .awards) new (h .awards-marked) (new-all (λ x. marked (b .marks) (x .position) ≡ true) (λ o q l m f. rw (f .position) (h .auction-marked (on .0))));
+      few-awards = omega (arith, h .few-awards, ap (λ (t : Bool). only t 16) (lt-ltb 0 (b .auction .position) (on .0)), h .few-offers, length-append (b .awards) new, awards-few cheapest);
       covered = cover;
     }
   where
@@ -177,17 +123,17 @@ award-keeps b a t h =
     open' : ℕ
     open' = positionOf b (b .auction .position) .unsettled
 
-    offers : List Offer
-    offers = byPrice [] (b .auction .offers)
-
     new : List Award
-    new = awarded open' offers
+    new = awarded open' (byPrice [] (b .auction .offers))
 
-    offers-fit : All (OfferFits (b .auction)) offers
-    offers-fit = byPrice-all (OfferFits (b .auction)) [] (b .auction .offers) tt (h .offers-fit)
+    cheapest : Cheapest open' (b .auction .offers) new
+    cheapest = cheapest'.cover open' (b .auction .offers)
+
+    new-all : (P : Award → Type 0) → ((o : Offer) (q : ℕ) → 0 < q → q ≤ o .quantity → OfferFits (b .auction) o → P (awardFor o q)) → All P new
+    new-all P f = awards-all cheapest P (OfferFits (b .auction)) f (h .offers-fit)
 
     new-on : All (λ x. x .position ≡ b .auction .position) new
-    new-on = awarded-all (λ x. x .position ≡ b .auction .position) (OfferFits (b .auction)) (λ o q l m f. f .position) open' offers offers-fit
+    new-on = new-all (λ x. x .position ≡ b .auction .position) (λ o q l m f. f .position)
 
     cover : (i : ℕ) → i < length (b .positions) → unconfirmed (suc i) (b .awards ++ new) ≤ getD (b .positions) i noPosition .unsettled
     cover i l = go (ask (eqb (suc i) (b .auction .position)))
@@ -197,7 +143,7 @@ award-keeps b a t h =
             let same : suc i ≡ b .auction .position = eqb-true (suc i) (b .auction .position) e in
             let first : unconfirmed (suc i) (b .awards) ≡ 0 = none-on (suc i) (b .awards) (rw same (h .auction-first (on .0))) in
             let own : positionOf b (b .auction .position) ≡ getD (b .positions) i noPosition = place-nth noPosition (b .positions) i (b .auction .position) (sym same) in
-            omega (arith, unconfirmed-append (suc i) (b .awards) new, first, awarded-sum (suc i) open' offers, ap (λ (p : Position). p .unsettled) own)
+            omega (arith, unconfirmed-append (suc i) (b .awards) new, first, unconfirmed-most (suc i) new, cheapest .fits, ap (λ (p : Position). p .unsettled) own)
         go (failed e) =
             let other : suc i ≢ b .auction .position = eqb-false (suc i) (b .auction .position) e in
             let none : unconfirmed (suc i) new ≡ 0 = none-on (suc i) new (all-of (λ x. x .position ≡ b .auction .position) (λ x. x .position ≢ suc i) new (λ x p s. other (sym s ∙ p)) new-on) in
@@ -241,7 +187,7 @@ confirmed-all : (P : Award → Type 0) → ((a : Award) → P a → P (record { 
 unfolding confirmedAward
 confirmed-all P f j n awards h =
     all-number P (confirmedAward j) P n awards
-    (λ k a p. chosen P (eqb k j) (record { position = a .position; offerer = a .offerer; quantity = a .quantity; price = a .price; confirmed = true }) a (f a p) p) h
+    (λ k a p. decided P (eqb k j) (record { position = a .position; offerer = a .offerer; quantity = a .quantity; price = a .price; confirmed = true }) a (λ e. f a p) (λ e. p)) h
 
 -- the same of the award that a number names
 confirmed-named : (k j : ℕ) (awards : List Award) → 1 ≤ j → j < 1 + length awards → nth noAward awards j .confirmed ≡ false

@@ -1,10 +1,9 @@
 -- The positions of a book are those that the accepted trades and closes alone make, but for what was discharged of them.
-use Prim.Native.Nat.{ℕ, zero, suc}
+use Prim.Native.Nat.{ℕ, suc}
 use mathlib.Core.Path.{_≡_, refl, ap, sym, _∙_}
 use mathlib.Core.List.{List, [], _∷_, _++_, map, append-assoc, append-nil, map-append}
 use lib.ListN.{length, length-map, getD, List·getD-map}
 use Rattle.laws.specs.Lists.{number, All}
-use Rattle.laws.specs.Refusals.{accepted}
 use Rattle.plain.specs.declared.Opening.{Opening}
 use Rattle.events.specs.declared.Trade.{Trade}
 use Rattle.events.specs.declared.Event.{Event}
@@ -15,8 +14,8 @@ use Rattle.plain.specs.Book.{Book, new, noPosition}
 use Rattle.plain.specs.Netting.{Key, keys, netted}
 use Rattle.plain.specs.Dealing.{lowered, lowering, fresh}
 use Rattle.plain.specs.Calls.{Call, discharged, handsOut, done}
-use Rattle.plain.specs.Refusals.{refusal}
-use Rattle.plain.specs.Histories.{eventOf, next, run, acceptedEvents, formed, formedBy}
+use Rattle.plain.specs.Histories.{eventOf, run, acceptedEvents, formed, formedBy}
+use Rattle.plain.proofs.Accepted.{run-tells}
 use Rattle.plain.proofs.Netted.{New, netted-new}
 
 fresh-number : (xs : List Piece) (n : ℕ) (ps : List Position) → map fresh (number (lowered xs) n ps) ≡ map fresh ps
@@ -79,15 +78,11 @@ done-forms b (event.Confirm c) es = discharge-forms (handsOut b (event.Confirm c
 done-forms b (event.Cash c) es = discharge-forms (handsOut b (event.Cash c)) (b .positions) (formed (keys (b .opening .register .count)) (b .day) (b .trades) es)
 done-forms b event.Close es = close-forms (b .day) (b .trades) (keys (b .opening .register .count)) (b .positions) (formed (keys (b .opening .register .count)) (suc (b .day)) [] es)
 
-either-forms : (n : ℕ) (b : Book) (e : Event) (es : List Event) → with-later (accepted n (done b e) b) es ≡ with-later b (accepted n (e ∷ []) [] ++ es)
-either-forms zero b e es = done-forms b e es
-either-forms (suc n) b e es = refl
-
 pub formed-run : (b : Book) (cs : List Call) → map fresh (run b cs .positions) ≡ map fresh (b .positions) ++ formed (keys (b .opening .register .count)) (b .day) (b .trades) (acceptedEvents b cs)
-unfolding run acceptedEvents formed
-formed-run b [] = sym (append-nil (map fresh (b .positions)))
-formed-run b (c ∷ cs) =
-    formed-run (next b c) cs ∙ unfold next in either-forms (refusal b c) b (eventOf c) (acceptedEvents (next b c) cs)
+unfolding formed
+formed-run b cs =
+    sym (append-nil (map fresh (run b cs .positions)))
+    ∙ run-tells with-later (λ x. Unit {0}) (λ x c e h. tt) (λ x c e h es. done-forms x (eventOf c) es) b cs tt
 
 -- from a new book: what the accepted trades and closes make
 pub formed-new : (opening : Opening) (cs : List Call) → map fresh (run (new opening) cs .positions) ≡ formedBy opening (acceptedEvents (new opening) cs)
@@ -95,7 +90,7 @@ unfolding new
 formed-new opening cs = formed-run (new opening) cs
 
 -- the same of each place
-fresh-at : (ps : List Position) (i : ℕ) → fresh (getD ps i noPosition) ≡ getD (map fresh ps) i noPosition
+pub fresh-at : (ps : List Position) (i : ℕ) → fresh (getD ps i noPosition) ≡ getD (map fresh ps) i noPosition
 unfolding fresh
 fresh-at ps i = sym (List·getD-map fresh ps i noPosition)
 

@@ -4,6 +4,9 @@ pub mod Netted
 pub mod Dealt
 pub mod Discharged
 pub mod Awards
+pub mod Exchange
+pub mod Ordered
+pub mod Cover
 pub mod AwardSteps
 pub mod Closing
 pub mod Steps
@@ -16,6 +19,9 @@ pub mod Standing
 pub mod Sound
 pub mod Tally
 pub mod Discharges
+pub mod Offered
+pub mod Covering
+pub mod Confirmed
 pub mod Accounts
 pub mod Bound
 pub mod Claim

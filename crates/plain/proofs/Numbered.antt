@@ -1,14 +1,14 @@
 -- Laws of what a number names: number n of a list stands at place n - 1, and number 0 names nothing.
-use Prim.Native.Nat.{ℕ, zero, suc, _-_, _≤_, _<_}
+use Prim.Native.Nat.{ℕ, zero, suc, _+_, _-_, _≤_, _<_}
 use native.Mathlib.Omega.{arith}
 use mathlib.Core.Path.{_≡_, refl, ap, _∙_}
 use mathlib.Core.Logic.{_≢_}
-use mathlib.Core.List.{List, [], _∷_}
-use lib.ListN.{length, getD, take, set, replicate, getD-replicate}
-use lib.Seq.{getD-take, getD-set-same, getD-set-other}
-use Rattle.laws.specs.Lists.{All, sum}
+use mathlib.Core.List.{List, [], _∷_, _++_}
+use lib.ListN.{length, getD, take, set, replicate, getD-replicate, List·getD-append}
+use lib.Seq.{getD-take, getD-set-same, getD-set-other, getD-append-add}
+use Rattle.laws.specs.Lists.{All, sum, number}
 use Rattle.laws.specs.Asked.{Within}
-use Rattle.laws.specs.Alls.{all-at, all-anywhere}
+use Rattle.laws.specs.Alls.{all-at, all-anywhere, getD-number}
 use Rattle.plain.specs.Book.{nth}
 
 -- an element counts in its sum
@@ -54,3 +54,16 @@ module _ {A : Type 0} (d : A) where
 
   pub nth-replicate : (count n : ℕ) (x : A) → Within 1 count n → nth d (replicate count x) n ≡ x
   nth-replicate count n x h = nth-at (replicate count x) n (h .above) ∙ getD-replicate count (n - 1) x d (omega (arith, h .above, h .below))
+
+  -- a number below those that are added, and one of those
+  pub nth-append : (l m : List A) (n : ℕ) → n ≤ length l → nth d (l ++ m) n ≡ nth d l n
+  nth-append l m n h = List·getD-append (d ∷ l) m d n (omega arith)
+
+  pub nth-behind : (l m : List A) (i : ℕ) → nth d (l ++ m) (suc (length l) + i) ≡ getD m i d
+  nth-behind l m i =
+      ap (nth d (l ++ m)) (let next : suc (length l) + i ≡ suc (length l + i) = omega arith in next) ∙ getD-append-add l m i d
+
+  pub nth-number : {B : Type 0} (f : ℕ → B → A) (e : B) (l : List B) (n : ℕ) → Within 1 (length l) n → nth d (number f 1 l) n ≡ f n (nth e l n)
+  nth-number f e l zero h = absurd (omega (arith, h .above))
+  nth-number f e l (suc n) h =
+      getD-number f 1 l n d e (omega (arith, h .below)) ∙ ap (λ (k : ℕ). f k (getD l n e)) (omega arith)

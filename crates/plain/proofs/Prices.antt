@@ -1,16 +1,15 @@
 -- The latest price of a security and the day on which it was given: what the accepted prices and closes alone make them, and that an accepted
 -- attempt or cash settlement goes by a price of today.
-use Prim.Native.Nat.{ℕ, zero, suc, _-_, _≤_}
+use Prim.Native.Nat.{ℕ, _-_, _≤_}
 use native.Mathlib.Omega.{arith}
 use mathlib.Core.Path.{_≡_, refl, ap, sym, _∙_}
-use mathlib.Core.List.{List, [], _∷_, _++_}
+use mathlib.Core.List.{List, _∷_}
 use mathlib.Core.Bool.{cond, false, true≢false}
 use lib.ListN.{length, set}
 use lib.Dec.{eqb}
 use borrow.Author.Tests.{ltb-false, eqb-true, eqb-false, ne-eqb}
 use Rattle.laws.specs.Limits.{SECURITIES}
 use Rattle.laws.specs.Asked.{Said, passed, failed, ask, Within}
-use Rattle.laws.specs.Refusals.{accepted}
 use Rattle.events.specs.declared.Event.{Event}
 use Rattle.events.specs.declared.Event.the-variants as event
 use Rattle.plain.specs.declared.Opening.{Opening}
@@ -20,11 +19,11 @@ use Rattle.plain.specs.declared.LatestPrice.the-variants.{Given}
 use Rattle.plain.specs.Book.{Book, new, noPrice, givenOn, nth, positionOf, lookedUp, latestPrice, priceIn}
 use Rattle.plain.specs.Calls.{Call, call, discharged, done}
 use Rattle.plain.specs.Refusals.{isNever, isGivenBefore, refusal}
-use Rattle.plain.specs.Histories.{eventOf, next, run, acceptedEvents, lastGiven, latestBy}
+use Rattle.plain.specs.Histories.{eventOf, run, acceptedEvents, lastGiven, latestBy}
 use Rattle.plain.specs.Invariants.{NeedsPrice, attempted, settled, GivenToday}
 use Rattle.plain.specs.Sound.{PricesFit}
 use Rattle.plain.proofs.Numbered.{nth-anywhere, nth-replicate, nth-set-same, nth-set-other}
-use Rattle.plain.proofs.Accepted.{PricePassed, price-taken, attempt-taken, cash-taken, next-keeps}
+use Rattle.plain.proofs.Accepted.{PricePassed, price-taken, attempt-taken, cash-taken, run-tells}
 use Rattle.plain.proofs.Kept.{done-prices}
 
 -- the price that a lookup tells is the one kept
@@ -68,17 +67,9 @@ module _ (s : ℕ) (known : Within 1 SECURITIES s) where
   done-last b (call (event.Cash c) sheet) e h es = refl
   done-last b (call event.Close sheet) e h es = refl
 
-  either-last : (n : ℕ) (b : Book) (c : Call) → refusal b c ≡ n → Fitting b → (es : List Event) → let after = accepted n (done b (eventOf c)) b in
-      lastGiven s (after .day) (latestPrice after s) es ≡ lastGiven s (b .day) (latestPrice b s) (accepted n (eventOf c ∷ []) [] ++ es)
-  either-last zero b c e h es = done-last b c e h es
-  either-last (suc n) b c e h es = refl
-
   last-run : (b : Book) (cs : List Call) → Fitting b → latestPrice (run b cs) s ≡ lastGiven s (b .day) (latestPrice b s) (acceptedEvents b cs)
-  unfolding run acceptedEvents lastGiven
-  last-run b [] h = refl
-  last-run b (c ∷ cs) h =
-      last-run (next b c) cs (next-keeps Fitting done-prices b c h)
-      ∙ unfold next in either-last (refusal b c) b c refl h (acceptedEvents (next b c) cs)
+  unfolding lastGiven
+  last-run b cs h = run-tells (λ x es. lastGiven s (x .day) (latestPrice x s) es) Fitting done-prices done-last b cs h
 
   -- of a new book, which has no price
   pub last-new : (opening : Opening) (cs : List Call) → Fitting (new opening) → latestPrice (run (new opening) cs) s ≡ latestBy opening (acceptedEvents (new opening) cs) s

@@ -12,6 +12,7 @@ use Rattle.laws.specs.Lists.{All, range, only, sum, some}
 use Rattle.laws.specs.Asked.{Within}
 use Rattle.laws.specs.Integers.{sumℤ}
 use Rattle.events.specs.declared.Trade.{Trade}
+use Rattle.events.specs.declared.Award as asked
 use Rattle.events.specs.declared.Cash.{Cash}
 use Rattle.events.specs.declared.Event.the-variants as event
 use Rattle.plain.specs.declared.Opening.{Opening}
@@ -24,7 +25,8 @@ use Rattle.plain.specs.Dealing.{manners, takenBy, fresh}
 use Rattle.plain.specs.Charging.{creditOf, debitOf, settlementTerms}
 use Rattle.plain.specs.Calls.{Call, isDischarge, shortOf}
 use Rattle.plain.specs.Refusals.{refusal}
-use Rattle.plain.specs.Histories.{eventOf, next, pieces, quantity, charged, run, handed, allCharges, acceptedEvents, formedBy, tradesOn, latestBy, balance}
+use Rattle.plain.specs.Histories.{eventOf, next, pieces, quantity, charged, run, handed, allCharges, acceptedEvents, formedBy, tradesOn, latestBy, offersBy, balance}
+use Rattle.plain.specs.Cover.{added, Covered, PaysLeast, Confirmed, confirmationsOf}
 use Rattle.plain.specs.Invariants.{nettedOf, DueLong, Dealable, NeedsPrice, GivenToday}
 use Rattle.plain.specs.Sound.{Sound, Small}
 
@@ -111,5 +113,15 @@ pub record Claim (opening : Opening) (cs : List Call) : Type 0 where
   -- a next call that is a cash settlement and is accepted has one price for all its pieces
   pub one-price : (c : Call) (s : Cash) → refusal (run (new opening) cs) c ≡ 0 → eventOf c ≡ event.Cash s
       → OnePrice (run (new opening) cs) (s .position) (pieces (run (new opening) cs) c)
+  -- the offers of the running auction, in order of arrival, are worked out from the accepted attempts, offers and awards of the list alone
+  pub offers : run (new opening) cs .auction .offers ≡ offersBy (acceptedEvents (new opening) cs)
+  -- a next call that is an award and is accepted makes awards that are the cheapest cover of its short, and reports their units
+  pub cheapest : (c : Call) (a : asked.Award) → refusal (run (new opening) cs) c ≡ 0 → eventOf c ≡ event.Award a
+      → Covered (run (new opening) cs) (next (run (new opening) cs) c) (a .position) (quantity (run (new opening) cs) c)
+  -- and once later calls of the day have confirmed all of them, the seller was charged least
+  pub pays-least : (c : Call) (a : asked.Award) (later : List Call) → refusal (run (new opening) cs) c ≡ 0 → eventOf c ≡ event.Award a
+      → Confirmed (run (new opening) cs) (next (run (new opening) cs) c) (run (next (run (new opening) cs) c) later)
+      → PaysLeast (run (new opening) cs) (a .position) (added (run (new opening) cs) (next (run (new opening) cs) c))
+      (confirmationsOf (run (new opening) cs) (next (run (new opening) cs) c) later)
   -- a next call that is refused changes nothing and hands out nothing
   pub refuses : (c : Call) → refusal (run (new opening) cs) c ≢ 0 → Refused (run (new opening) cs) c

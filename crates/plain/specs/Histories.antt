@@ -8,6 +8,7 @@ use mathlib.Core.Bool.{cond}
 use Rattle.laws.specs.Limits.{PLACES}
 use Rattle.laws.specs.Refusals.{accepted}
 use Rattle.events.specs.declared.Trade.{Trade}
+use Rattle.events.specs.declared.Offer.{Offer}
 use Rattle.events.specs.declared.Event.{Event}
 use Rattle.events.specs.declared.Event.the-variants as event
 use Rattle.plain.specs.declared.Opening.{Opening}
@@ -128,11 +129,28 @@ lastGiven security day latest (event.Close ∷ es) = lastGiven security (suc day
 abbrev pub latestBy : Opening → List Event → ℕ → LatestPrice
 latestBy opening es security = lastGiven security (firstDay opening) Never es
 
+-- the offers of the running auction that the accepted attempts, offers and awards alone make, from those that were in up to then
+unfoldable pub offered : List Offer → List Event → List Offer
+offered offers [] = offers
+offered offers (event.Trade t ∷ es) = offered offers es
+offered offers (event.Price p ∷ es) = offered offers es
+offered offers (event.Delivery d ∷ es) = offered offers es
+offered offers (event.Attempt a ∷ es) = offered [] es
+offered offers (event.Offer o ∷ es) = offered (offers ++ o ∷ []) es
+offered offers (event.Award a ∷ es) = offered [] es
+offered offers (event.Confirm c ∷ es) = offered offers es
+offered offers (event.Cash c ∷ es) = offered offers es
+offered offers (event.Close ∷ es) = offered offers es
+
+-- those that they make of a new book
+abbrev pub offersBy : List Event → List Offer
+offersBy es = offered [] es
+
 -- "a credit is positive": the balance of an account
 unfoldable pub balance : Book → ℕ → ℤ
 balance b k = subℕ (getD (b .ledger .credits) k 0) (getD (b .ledger .debits) k 0)
 
 -- Unfolding this unfolds the whole book, for worked examples.
 unfoldable pub computing : Unit {0}
-unfolding along new keys units highestPrice made netOf net netted due longOf longsOn takers share dealTo names taken takenBy lowered lowering fresh failing insert byPrice awarded unconfirmed confirmedAward credited debited posted charge buyInCharges settlementPrice pricedAt payment cashChargesBy cashCharges awardFines lateFines closeCharges dealt discharged auctionAwards handsOut charges amount done stepToday free reasons refusal next pieces quantity charged run handed allCharges acceptedEvents formed tradedOn lastGiven balance
+unfolding along new keys units highestPrice made netOf net netted due longOf longsOn takers share dealTo names taken takenBy lowered lowering fresh failing insert byPrice awarded unconfirmed confirmedAward credited debited posted charge buyInCharges settlementPrice pricedAt payment cashChargesBy cashCharges awardFines lateFines closeCharges dealt discharged auctionAwards handsOut charges amount done stepToday free reasons refusal next pieces quantity charged run handed allCharges acceptedEvents formed tradedOn lastGiven offered balance
 computing = tt

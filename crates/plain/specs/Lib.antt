@@ -7,6 +7,7 @@ pub mod Charging
 pub mod Calls
 pub mod Refusals
 pub mod Histories
+pub mod Cover
 pub mod Invariants
 pub mod Sound
 pub mod Claim

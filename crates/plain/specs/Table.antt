@@ -4,7 +4,7 @@
 use Prim.Native.Nat.{ℕ, _+_}
 use native.Mathlib.Omega.{arith}
 use mathlib.Core.Path.{_≡_, refl}
-use mathlib.Core.List.{List, [], _∷_, _++_, map}
+use mathlib.Core.List.{List, [], _∷_, _++_, map, zipWith}
 use mathlib.Core.Bool.{true, false}
 use lib.ListN.{replicate}
 use lib.IntN.{pos, negℤ}
@@ -20,13 +20,15 @@ use Rattle.register.specs.Register.{registerRead}
 use Rattle.register.specs.Register as check
 use Rattle.plain.specs.declared.LatestPrice.the-variants.{Never, Given}
 use Rattle.plain.specs.declared.Position.{Position}
+use Rattle.plain.specs.declared.Award.{Award}
 use Rattle.plain.specs.declared.Piece.{Piece}
 use Rattle.plain.specs.declared.Manner.{Manner}
 use Rattle.plain.specs.declared.Manner.the-variants as manner
 use Rattle.plain.specs.Book.{Book, givenOn, latestPrice}
 use Rattle.plain.specs.Netting.{kindNumber}
 use Rattle.plain.specs.Histories.{run, handed, allCharges, refusals, quantities, balance, computing}
-use Rattle.plain.specs.Worked.{xx, oneShareBytes, oneShare, twoSharesBytes, twoShares, squeeze, example, twoDays, oldPrices, allDelivered, twoLongs, fourLongs, bothKinds, failingByKind}
+use Rattle.plain.specs.Cover.{cost}
+use Rattle.plain.specs.Worked.{xx, oneShareBytes, oneShare, twoSharesBytes, twoShares, squeeze, example, twoDays, oldPrices, allDelivered, twoLongs, fourLongs, bothKinds, failingByKind, auctionOf, awardOf, onePriceTwice, lastInPart, tooFewOffers}
 
 -- a row: a value by the definitions, and the value expected
 pub record Row : Type 1 where
@@ -45,6 +47,10 @@ Holds (r ∷ rs) = (r .value ≡ r .expected) × Holds rs
 abbrev piece : ℕ → ℕ → ℕ → Manner → ℕ → Piece
 piece short long quantity manner cents =
     record { short = short; long = long; quantity = quantity; manner = manner; cents = cents }
+
+-- an award's offerer, quantity and price
+abbrev awardLine : Award → List ℕ
+awardLine a = a .offerer ∷ a .quantity ∷ a .price ∷ []
 
 -- the figures of a position's line: netted, delivered, bought in, cash, open
 abbrev figures : Position → List ℕ
@@ -150,8 +156,27 @@ table =
     ∷ (refusals twoShares bothKinds is (0 ∷ 0 ∷ 0 ∷ 14 ∷ 14 ∷ 33 ∷ 33 ∷ 33 ∷ 0 ∷ 0 ∷ 0 ∷ 0 ∷ []))
     -- "A member failing in either kind may not offer."
     ∷ (refusals oneShare failingByKind is (replicate 11 0 ++ 21 ∷ 21 ∷ 0 ∷ []))
+    -- "every other way to take, from each offer, at most its quantity, with the same total, costs at least as much": of two offers at one price the
+    -- earlier is taken first. The way that is taken costs 64,500 for 60 units; so does one that takes more of the later of the two; one that takes less of
+    -- the cheapest costs 69,000
+    ∷ (map awardLine (run oneShare (awardOf onePriceTwice []) .awards) is ((6 ∷ 25 ∷ 900 ∷ []) ∷ (4 ∷ 20 ∷ 1200 ∷ []) ∷ (5 ∷ 15 ∷ 1200 ∷ []) ∷ []))
+    ∷ (map (cost (run oneShare (auctionOf onePriceTwice) .auction .offers)) ((20 ∷ 15 ∷ 25 ∷ []) ∷ (5 ∷ 30 ∷ 25 ∷ []) ∷ (20 ∷ 30 ∷ 10 ∷ []) ∷ [])
+    is (64500 ∷ 64500 ∷ 69000 ∷ []))
+    -- all confirmed: a credit of 2,500 for 25 units at 900 against 1,000, charges of 4,000 and 3,000; 64,500 less 60 units at 1,000
+    ∷ (map (λ c. c .cents) (allCharges oneShare (awardOf onePriceTwice (1 ∷ 2 ∷ 3 ∷ []))) is (2500 ∷ 4000 ∷ 3000 ∷ []))
+    ∷ (map (balance (run oneShare (awardOf onePriceTwice (1 ∷ 2 ∷ 3 ∷ [])))) (range 0 2) is (pos 4500 ∷ negℤ (pos 4500) ∷ []))
+    -- the last one in part, and an offer that finds nothing left
+    ∷ (map awardLine (run oneShare (awardOf lastInPart []) .awards) is ((6 ∷ 40 ∷ 1050 ∷ []) ∷ (4 ∷ 20 ∷ 1100 ∷ []) ∷ []))
+    -- "No way takes more, within the short's open quantity.": too few offers, all of them taken whole; confirmed, they leave 30 open
+    ∷ (map awardLine (run oneShare (awardOf tooFewOffers []) .awards) is ((5 ∷ 20 ∷ 1100 ∷ []) ∷ (4 ∷ 10 ∷ 1300 ∷ []) ∷ []))
+    ∷ (map figures (run oneShare (awardOf tooFewOffers (1 ∷ 2 ∷ [])) .positions)
+    is ((60 ∷ 0 ∷ 30 ∷ 0 ∷ 30 ∷ []) ∷ (60 ∷ 0 ∷ 30 ∷ 0 ∷ 30 ∷ []) ∷ []))
+    -- no offer: a total of 0
+    ∷ (map awardLine (run oneShare (awardOf [] []) .awards) is [])
+    ∷ (refusals oneShare (awardOf [] []) is replicate 11 0)
+    ∷ (quantities oneShare (awardOf [] []) is (60 ∷ replicate 10 0))
     ∷ []
 
 pub every-row : Holds table
-unfolding table shareStep recurringStep stepOn ceiling raised cashPrice roundedHalfUp fee cashFee awardFine lateFine buyInCharge inCents check.computing computing
-every-row = (refl, (refl, (refl, (refl, (λ i more. fee-above (4000000001 + more) (omega arith) i, (refl, (refl, (refl, (refl, (refl, (refl, (refl, (refl, (refl, (refl, (refl, (refl, (refl, (refl, (refl, (refl, (refl, (refl, (refl, (refl, (refl, (refl, (refl, (refl, (refl, (refl, (refl, (refl, (refl, (refl, (refl, (refl, (refl, (refl, (refl, (refl, (refl, (refl, (refl, tt))))))))))))))))))))))))))))))))))))))))))))
+unfolding table shareStep recurringStep stepOn ceiling raised cashPrice roundedHalfUp fee cashFee awardFine lateFine buyInCharge inCents check.computing computing cost zipWith
+every-row = (refl, (refl, (refl, (refl, (λ i more. fee-above (4000000001 + more) (omega arith) i, (refl, (refl, (refl, (refl, (refl, (refl, (refl, (refl, (refl, (refl, (refl, (refl, (refl, (refl, (refl, (refl, (refl, (refl, (refl, (refl, (refl, (refl, (refl, (refl, (refl, (refl, (refl, (refl, (refl, (refl, (refl, (refl, (refl, (refl, (refl, (refl, (refl, (refl, (refl, (refl, (refl, (refl, (refl, (refl, (refl, (refl, (refl, (refl, (refl, tt))))))))))))))))))))))))))))))))))))))))))))))))))))))

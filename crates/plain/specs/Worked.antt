@@ -1,6 +1,6 @@
 -- Document 01, 'Edges and a squeeze' and 'Event files and the player', and document 02: worked histories as lists of calls on the plain book.
 use Prim.Native.Nat.{ℕ}
-use mathlib.Core.List.{List, [], _∷_, _++_}
+use mathlib.Core.List.{List, [], _∷_, _++_, map}
 use lib.ListN.{replicate}
 use Rattle.events.specs.declared.Event.{Event}
 use Rattle.events.specs.declared.Event.the-variants as event
@@ -221,3 +221,24 @@ failingByKind =
     ∷ offerOn 3 3 10 1100
     ∷ offerOn 3 4 10 1100
     ∷ []))
+
+-- auctions on one short (document 02, Slip 6). Day 1: member 1 sells 60 to 2 at 1,000. Day 8, at the price 1,100: an attempt on position 1, and offers
+abbrev pub auctionOf : List Event → List Call
+auctionOf offers = callsOf (trade 1 2 60 1000 ∷ closes 7 ++ (price 1100 ∷ attempt ∷ offers))
+
+-- the same with its award, and then with confirmations of the awards numbered so
+abbrev pub awardOf : List Event → List ℕ → List Call
+awardOf offers confirmed =
+    auctionOf (offers ++ event.Award (record { position = 1 }) ∷ map (λ n. event.Confirm (record { award = n })) confirmed)
+
+-- two offers at one price, the later one taken in part, and a cheaper one that came last
+abbrev pub onePriceTwice : List Event
+onePriceTwice = offer 4 20 1200 ∷ offer 5 30 1200 ∷ offer 6 25 900 ∷ []
+
+-- the second in order taken in part, and one that finds nothing left
+abbrev pub lastInPart : List Event
+lastInPart = offer 4 50 1100 ∷ offer 5 10 1150 ∷ offer 6 40 1050 ∷ []
+
+-- less than what is open
+abbrev pub tooFewOffers : List Event
+tooFewOffers = offer 4 10 1300 ∷ offer 5 20 1100 ∷ []

@@ -1,9 +1,11 @@
 //! The comparisons, part by part: exhaustive and known inputs once, random inputs once for each seed.
 
 pub mod builds;
+mod bytes;
 pub mod c_programs;
 pub mod calendar;
 pub mod charges;
+pub mod cover;
 pub mod csv;
 pub mod events;
 pub mod html;

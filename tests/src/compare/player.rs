@@ -191,7 +191,7 @@ pub fn known(check: &mut Check, input: &[u8], known: String) {
 }
 
 /// Counts the answers to the calls, and the refusals of whole inputs.
-fn count(check: &mut Check, output: &[u8]) {
+pub fn count(check: &mut Check, output: &[u8]) {
     for line in String::from_utf8_lossy(output).lines() {
         let words: Vec<&str> = line.split(' ').collect();
         if let ["f", number] | ["e", _, number, _] = words[..] {

@@ -1,5 +1,6 @@
 //! Counts the states that histories reach, so that a comparison can want each of them.
 
+mod auctions;
 mod kinds;
 
 use super::terms::{Term, Terms};
@@ -47,9 +48,16 @@ states! {
     PartAward "an award that takes an offer in part",
     LeftOver "offers left over at an award",
     TieDecides "two offers of one price, of which only the earlier is taken whole",
+    PartAtTie "an offer taken in part, at the price of an earlier one that is taken whole",
+    NothingAtTie "an offer that finds nothing left, at the price of an earlier one that is taken whole",
+    AcrossCheaper "two offers of one price taken, with a cheaper one between them",
+    DearestFirst "three offers or more that arrive dearest first",
+    TwoOfOneMember "two offers of one member taken",
     NotMet "offers that do not meet the open quantity",
     Dearer "an award confirmed above the reference price",
     Cheaper "an award confirmed below the reference price",
+    ChargeAndCredit "an auction whose awards are all confirmed, above the reference price and below",
+    ThreeConfirmed "an auction of three awards or more, all confirmed, one of them below the reference price",
     Fine1 "a failed award in class 1",
     Fine2 "a failed award in class 2",
     Fine3 "a failed award in class 3",
@@ -190,6 +198,7 @@ impl Survey {
                 let reference = book.positions[award.short].reference_price;
                 self.reach_if(award.price > reference, State::Dearer);
                 self.reach_if(award.price < reference, State::Cheaper);
+                self.confirmed(book, award.short);
             }
             Event::Cash { short } => {
                 let terms = Terms::of(book, short.into(), answer.pieces.iter().map(|piece| piece.long.into()));
@@ -284,6 +293,7 @@ impl Survey {
         let offered: u64 = offers.iter().map(|offer| u64::from(offer.quantity)).sum();
         self.reach_if(offers.is_empty(), State::NoOffers);
         self.reach_if((1..open).contains(&offered), State::NotMet);
+        self.taken(offers, open);
         let mut taken = 0;
         let mut sorted = offers.clone();
         sorted.sort_by_key(|offer| offer.price);

@@ -1,8 +1,9 @@
 //! The positions of each close, worked out from the accepted trades in the input's bytes: bought minus sold by member,
-//! kind and security, in this order. Register and file are read here by their layout, without the second implementation.
+//! kind and security, in this order.
 
 use super::known::KNOWN;
 use crate::check::Check;
+use crate::compare::bytes::{parts, quantity, word, Parts, WIDTH};
 use crate::compare::page::Given;
 use crate::compare::player::{output, shown};
 use crate::compare::prices::input_of;
@@ -105,24 +106,6 @@ fn alike(what: &str, found: Vec<String>, wanted: &[String]) -> Result<(), String
     }
 }
 
-/// The parts of an input that is not refused.
-struct Parts<'a> {
-    isins: &'a [u8],
-    kinds: &'a [u8],
-    bodies: &'a [u8],
-}
-
-fn parts(input: &[u8]) -> Parts<'_> {
-    let securities = usize::from(input[0]);
-    let (isins, file) = input[2 + securities..].split_at(12 * securities);
-    let (kinds, bodies) = file[4..].split_at(usize::from(word(file)));
-    Parts { isins, kinds, bodies }
-}
-
-fn word(bytes: &[u8]) -> u16 {
-    u16::from_le_bytes([bytes[0], bytes[1]])
-}
-
 /// An input that is refused has no parts to be read.
 fn is_refused(lines: &[Line]) -> bool {
     matches!(lines, [Line::Refused { .. }])
@@ -137,7 +120,7 @@ fn made(input: &[u8], lines: &[Line]) -> Vec<Made> {
         Line::Event { refusal, .. } => Some(*refusal == 0),
         _ => None,
     });
-    let events = kinds.iter().zip(bodies.chunks(16)).zip(accepted).filter(|(_, accepted)| *accepted);
+    let events = kinds.iter().zip(bodies.chunks(WIDTH)).zip(accepted).filter(|(_, accepted)| *accepted);
     let mut day = 1;
     let mut nets: BTreeMap<(u8, u8, u16), i64> = BTreeMap::new();
     let mut made = Vec::new();
@@ -158,7 +141,7 @@ fn made(input: &[u8], lines: &[Line]) -> Vec<Made> {
 /// Bytes 2 and 12 are the seller and its kind, 3 and 13 the buyer and its kind.
 fn trade(nets: &mut BTreeMap<(u8, u8, u16), i64>, body: &[u8]) {
     let security = word(body);
-    let quantity = i64::from(word(&body[4..])) + 65_536 * i64::from(word(&body[6..]));
+    let quantity = quantity(body) as i64;
     *nets.entry((body[2], body[12], security)).or_default() -= quantity;
     *nets.entry((body[3], body[13], security)).or_default() += quantity;
 }
