@@ -10,7 +10,7 @@ use lib.Seq.{take-length, length-take-le}
 use lib.ListN.{length, getD, length-append}
 use lib.Dec.{leb}
 use borrow.Author.Tests.{le-ltb, le-leb, lt-leb, leb-true, leb-false}
-use Rattle.laws.specs.Limits.{SECURITIES}
+use Rattle.laws.specs.Limits.{ACCOUNTS, SECURITIES}
 use Rattle.laws.specs.Asked.{Said, passed, failed, ask, Within, within, both-bounds}
 use Rattle.register.specs.Accepted.{read-registered}
 use Rattle.events.specs.declared.Award as asked
@@ -27,7 +27,7 @@ use Rattle.plain.specs.Calls.{Call, call}
 use Rattle.plain.specs.Refusals.{refusal}
 use Rattle.plain.specs.Histories.{eventOf, next, pieces, quantity, along, run, handed, acceptedEvents, formedBy, latestBy, balance}
 use Rattle.plain.specs.Cover.{added, Covered, Confirmed}
-use Rattle.plain.specs.Sound.{Sound}
+use Rattle.plain.specs.Sound.{Sound, Places}
 use Rattle.plain.proofs.Numbered.{nth-at, nth-append, nth-behind}
 use Rattle.plain.proofs.Accepted.{award-taken, next-keeps}
 use Rattle.plain.proofs.Kept.{run-opening}
@@ -37,6 +37,7 @@ use Rattle.plain.proofs.Discharges as discharges
 use Rattle.plain.proofs.Discharges.{discharge, one-price}
 use Rattle.plain.proofs.Covering.{covered}
 use Rattle.plain.proofs.Confirmed.{seller-pays}
+use Rattle.plain.proofs.Accounts.{done-places, new-places, next-balance}
 use Rattle.plain.proofs.Claim as told
 use Rattle.pieces.specs.Sheet.{piecesOf}
 use Rattle.pieces.proofs.Cells.{length-pieces}
@@ -46,11 +47,11 @@ use Rattle.calls.specs.Answers.{answered-number, answered-quantity}
 use Rattle.calls.specs.declared.PositionAnswer.the-variants.{Found, Refused}
 use Rattle.calls.specs.declared.AwardAnswer.the-variants as award
 use Rattle.calls.specs.declared.PriceAnswer.the-variants as price
-use Rattle.calls.specs.Reading.{positionAnswer, awardAnswer, priceAnswer, signed}
+use Rattle.calls.specs.Reading.{positionAnswer, awardAnswer, priceAnswer, signed, balanceAnswer}
 use Rattle.book.specs.View as whole
 use Rattle.book.proofs.Returns as book
 use Rattle.history.specs.Runs.{Stand, view, Return, piecesOn, Answers, bare, onNumbers, byValue, lent, Runs, stop, step, last, sheets, RunsTo, Begins, inPlace, asOneValue}
-use Rattle.history.specs.Claim.{Onward, none, one, Each, DealtOut, Fresh, PricedOnce, answerIn, CheapestRead, SellerPaysLeast, Kept, Filled, History}
+use Rattle.history.specs.Claim.{Onward, none, one, Each, DealtOut, Fresh, PricedOnce, answerIn, CheapestRead, SellerPaysLeast, Booked, Kept, Filled, History}
 
 -- What one call returned, with its pieces as the sheet has them: the same, however it was made
 
@@ -96,16 +97,28 @@ same-sheets (step {s = s} {c = c} {cs = cs} k rs) =
 
 -- Each call of the list, where the history stood when it was made, with those that follow it
 
-module _ {P : Stand → Call → Return → List Call → List Return → Type 0}
-    (p : (s : Stand) (c : Call) (r : Return) (cs : List Call) (rs : List Return) → Sound (view s) → Answers s c r → Runs (r .stand) cs rs → P s c r cs rs) where
-  onward : {s : Stand} {cs : List Call} {rs : List Return} → Sound (view s) → Runs s cs rs → Onward P s cs rs
-  onward h stop = none
-  onward h (step {s = s} {c = c} {r = r} {cs = cs} {rs = rs} k ks) =
-      one (p s c r cs rs h k ks) (onward (subst Sound (sym (called k .returned .book)) (next-keeps Sound done-sound (view s) c h)) ks)
+-- by what holds of every book that a history reaches
+module _ (Holding : plain.Book → Type 0) (keeps : (b : plain.Book) (c : Call) → Holding b → Holding (next b c)) where
+  onward : {P : Stand → Call → Return → List Call → List Return → Type 0}
+      → ((s : Stand) (c : Call) (r : Return) (cs : List Call) (rs : List Return) → Holding (view s) → Answers s c r → Runs (r .stand) cs rs → P s c r cs rs)
+      → {s : Stand} {cs : List Call} {rs : List Return} → Holding (view s) → Runs s cs rs → Onward P s cs rs
+  onward p h stop = none
+  onward p h (step {s = s} {c = c} {r = r} {cs = cs} {rs = rs} k ks) =
+      one (p s c r cs rs h k ks) (onward p (subst Holding (sym (called k .returned .book)) (keeps (view s) c h)) ks)
 
-every : {P : Stand → Call → Return → Type 0} → ((s : Stand) (c : Call) (r : Return) → Sound (view s) → Answers s c r → P s c r)
-    → {s : Stand} {cs : List Call} {rs : List Return} → Sound (view s) → Runs s cs rs → Each P s cs rs
-every p h runs = onward (λ s c r cs rs h k ks. p s c r h k) h runs
+  every : {P : Stand → Call → Return → Type 0} → ((s : Stand) (c : Call) (r : Return) → Holding (view s) → Answers s c r → P s c r)
+      → {s : Stand} {cs : List Call} {rs : List Return} → Holding (view s) → Runs s cs rs → Each P s cs rs
+  every p h runs = onward (λ s c r cs rs h k ks. p s c r h k) h runs
+
+sound-keeps : (b : plain.Book) (c : Call) → Sound b → Sound (next b c)
+sound-keeps = next-keeps Sound done-sound
+
+-- the ledger has its 64 places
+abbrev Placed : plain.Book → Type 0
+Placed b = Places (b .ledger)
+
+placed-keeps : (b : plain.Book) (c : Call) → Placed b → Placed (next b c)
+placed-keeps = next-keeps Placed (λ b c e h. done-places b (eventOf c) h)
 
 dealt-out : (s : Stand) (c : Call) (r : Return) → Sound (view s) → Answers s c r → DealtOut s c r
 dealt-out s c r h k e kind =
@@ -232,6 +245,14 @@ read-latest b opening given same few is security = rw same (go (ask (within 1 (o
         rw (t, is security (record { above = w .above; below = omega (arith, w .below, few) }))
     go (failed t) = rw t
 
+-- the balance of an account that is there
+read-balance : (b : plain.Book) (k : ℕ) → k < ACCOUNTS → balanceAnswer b k ≡ signed (balance b k)
+read-balance b k h = rw (le-ltb 63 k (omega arith))
+
+booked : (s : Stand) (c : Call) (r : Return) → Placed (view s) → Answers s c r → Booked s c r
+booked s c r h a k l =
+    read-balance (view (r .stand)) k l ∙ ap signed (ap (λ (p : plain.Book). balance p k) (called a .returned .book) ∙ next-balance (view s) c k h l)
+
 -- The claim
 
 -- what every history begins with: the new plain book of what the register's bytes open a book with, on a register that passes
@@ -254,6 +275,7 @@ claim opening {s} {cs} {rs} e few runs =
     let given : sheets rs ≡ handed (new opening) cs = same-sheets runs ∙ ap (λ (p : plain.Book). handed p cs) e in
     let claim = told.claim opening cs in
     let sound : Sound (view s) = subst Sound (sym e) (new-sound opening) in
+    let placed : Placed (view s) = subst Placed (sym e) (new-places opening) in
     record {
       answered = all-same (λ r. r .outcome) (λ b c. answer (refusal b c) (quantity b c)) (λ s c r k. called k .returned .outcome) (new opening) e runs;
       numbers = all-same (λ r. numberOf (r .outcome)) refusal (λ s c r k. number k) (new opening) e runs;
@@ -269,19 +291,20 @@ claim opening {s} {cs} {rs} e few runs =
       positions = rw same (claim .positions);
       by-kind = rw same (claim .by-kind);
       latest-prices = rw same (read-latest (run (new opening) cs) opening (latestBy opening (acceptedEvents (new opening) cs)) (opened opening cs) few (claim .prices));
-      fresh = every fresh sound runs;
+      fresh = every Sound sound-keeps fresh sound runs;
       dealt = all-same piecesOn pieces (λ s c r k. called k .returned .pieces) (new opening) e runs;
-      discharges = every dealt-out sound runs;
-      one-price = every priced-once sound runs;
+      discharges = every Sound sound-keeps dealt-out sound runs;
+      one-price = every Sound sound-keeps priced-once sound runs;
       offers = rw same (claim .offers);
-      cheapest = every cheapest-read sound runs;
-      pays-least = onward seller-pays-least sound runs;
+      cheapest = every Sound sound-keeps cheapest-read sound runs;
+      booked = every Placed placed-keeps booked placed runs;
+      pays-least = onward Sound sound-keeps seller-pays-least sound runs;
       accounts = rw same (claim .accounts');
-      balances = λ k h. rw (le-ltb 63 k (omega arith)) (ap signed (ap (λ (p : plain.Book). balance p k) same ∙ claim .accounts' k h));
+      balances = λ k h. read-balance (view (last s rs)) k h ∙ ap signed (ap (λ (p : plain.Book). balance p k) same ∙ claim .accounts' k h);
       zero-sum = rw same (claim .zero-sum);
       small = rw same (claim .small);
-      refused = every (λ s c r h k. kept k) sound runs;
-      filled = every (λ s c r h k. filled k) sound runs;
+      refused = every Sound sound-keeps (λ s c r h k. kept k) sound runs;
+      filled = every Sound sound-keeps (λ s c r h k. filled k) sound runs;
     }
 
 -- the claim about histories, from what opening was given and answered

@@ -6,7 +6,7 @@ use mathlib.Core.Logic.{_≢_}
 use mathlib.Core.List.{List, [], _∷_, _++_, map}
 use mathlib.Core.Bool.{true, cond}
 use lib.ListN.{length, getD, take, drop}
-use lib.IntN.{pos, subℕ}
+use lib.IntN.{pos, subℕ, _+ℤ_}
 use Rattle.laws.specs.Limits.{ACCOUNTS, MEMBERS}
 use Rattle.laws.specs.Asked.{Within, within}
 use Rattle.laws.specs.Lists.{All, range, sum}
@@ -25,7 +25,7 @@ use Rattle.plain.specs.Dealing.{manners, takenBy, fresh}
 use Rattle.plain.specs.Charging.{creditOf, debitOf}
 use Rattle.plain.specs.Calls.{Call, isDischarge, shortOf}
 use Rattle.plain.specs.Refusals.{refusal}
-use Rattle.plain.specs.Histories.{eventOf, pieces, quantity, along, refusals, quantities, run, allCharges, acceptedEvents, formedBy, tradesOn, latestBy, offersBy, balance}
+use Rattle.plain.specs.Histories.{eventOf, pieces, quantity, charged, along, refusals, quantities, run, allCharges, acceptedEvents, formedBy, tradesOn, latestBy, offersBy, balance}
 use Rattle.plain.specs.Cover.{unitsOf, Cheapest, added, PaysLeast, confirmationsOf}
 use Rattle.plain.specs.Invariants.{DueLong, NeedsPrice, GivenToday}
 use Rattle.plain.specs.Sound.{Small}
@@ -96,6 +96,12 @@ SellerPaysLeast s c r cs rs =
     → ((n : ℕ) → Within (suc (length (view s .awards))) (length (view (r .stand) .awards)) n → ReadConfirmed (view (last (r .stand) rs)) n)
     → PaysLeast (view s) (a .position) (added (view s) (view (r .stand))) (confirmationsOf (view s) (view (r .stand)) cs)
 
+-- each account, as the public read answers it after the call, is what it was, with the call's own charges alone
+abbrev pub Booked : Stand → Call → Return → Type 0
+Booked s c r =
+    (k : ℕ) → k < ACCOUNTS
+    → balanceAnswer (view (r .stand)) k ≡ signed (balance (view s) k +ℤ subℕ (creditOf k (charged (view s) c)) (debitOf k (charged (view s) c)))
+
 -- "A refused call changes nothing": core and tables are the very same
 abbrev pub Kept : Stand → Call → Return → Type 0
 Kept s c r = numberOf (r .outcome) ≢ 0 → (r .stand ≡ s) × (piecesOn r ≡ []) × (quantityOf (r .outcome) ≡ 0)
@@ -160,6 +166,8 @@ pub record History (opening : Opening) (s : Stand) (cs : List Call) (rs : List R
   -- the same of what the public read reports of an account
   pub balances : (k : ℕ) → k < ACCOUNTS
       → balanceAnswer (view (last s rs)) k ≡ signed (subℕ (creditOf k (allCharges (new opening) cs)) (debitOf k (allCharges (new opening) cs)))
+  -- and each call moves it by the call's own charges alone
+  pub booked : Each Booked s cs rs
   -- and by the confirmations of what an award made, once there is one of each, its seller is charged least
   pub pays-least : Onward SellerPaysLeast s cs rs
   -- 5. all 64 accounts add up to zero, and none leaves plus or minus 10^17 cents

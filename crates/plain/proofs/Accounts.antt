@@ -8,14 +8,14 @@ use mathlib.Core.Bool.{not, _&&_}
 use lib.ListN.{length, getD, length-set, length-replicate, getD-replicate}
 use lib.Seq.{getD-set-same, getD-set-other}
 use lib.Dec.{ltb, eqb}
-use lib.IntN.{pos, subℕ}
+use lib.IntN.{pos, subℕ, _+ℤ_}
 use borrow.Author.Tests.{eqb-true, eqb-false}
 use Rattle.laws.specs.Lists.{only, sum, each, range, All}
 use Rattle.laws.specs.Asked.{Said, passed, failed, ask}
 use Rattle.laws.specs.Listed.{sum-append}
 use Rattle.laws.specs.Alls.{all-append, all-keep, all-of, all-any, all-each, all-map}
 use Rattle.laws.specs.Refusals.{accepted}
-use Rattle.laws.specs.Integers.{sumℤ, total, sum-sub, sub-self, sum-places}
+use Rattle.laws.specs.Integers.{sumℤ, total, sum-sub, sub-add, sub-self, sum-places}
 use Rattle.plain.specs.declared.Opening.{Opening}
 use Rattle.rules.specs.declared.Amount.{Amount}
 use Rattle.rules.specs.declared.Amount.the-variants.{Debit, Credit}
@@ -216,6 +216,13 @@ accounts opening cs k h =
     let debits : getD (run (new opening) cs .ledger .debits) k 0 ≡ debitOf k (allCharges (new opening) cs) = omega (arith, run-debit (new opening) cs k p h, new-debit opening k h) in
     ap (λ (n : ℕ). subℕ n (getD (run (new opening) cs .ledger .debits) k 0)) credits
     ∙ ap (λ (n : ℕ). subℕ (creditOf k (allCharges (new opening) cs)) n) debits
+
+-- and each call moves it by its own charges alone
+pub next-balance : (b : Book) (c : Call) (k : ℕ) → Places (b .ledger) → k < 64 → balance (next b c) k ≡ balance b k +ℤ subℕ (creditOf k (charged b c)) (debitOf k (charged b c))
+unfolding balance creditOf debitOf
+next-balance b c k p h =
+    rw (next-ledger b c, posted-at (λ l. l .credits) (λ c. c .payee) posts-credits (b .ledger) (charged b c) k (omega (arith, p .credits)), posted-at (λ l. l .debits) (λ c. c .payer) posts-debits (b .ledger) (charged b c) k (omega (arith, p .debits)))
+    (sym (sub-add (getD (b .ledger .credits) k 0) (getD (b .ledger .debits) k 0) (creditOf k (charged b c)) (debitOf k (charged b c))))
 
 -- All accounts together
 

@@ -17,7 +17,7 @@ use Rattle.plain.proofs.Discharges.{discharge, one-price, refused}
 use Rattle.plain.proofs.Offered.{offered-new}
 use Rattle.plain.proofs.Covering.{covered}
 use Rattle.plain.proofs.Confirmed.{seller-pays}
-use Rattle.plain.proofs.Accounts.{Accountable, accounts, accounts-zero}
+use Rattle.plain.proofs.Accounts.{Accountable, new-places, run-places, accounts, next-balance, accounts-zero}
 use Rattle.plain.proofs.Bound.{Bounding, accounts-small}
 
 -- what the accounts ask of a book
@@ -46,6 +46,7 @@ claim opening cs =
       tallied = tally opening cs;
       prices = λ s known. last-new s known opening cs (n .standing .prices);
       accounts' = accounts opening cs;
+      booked = λ c k l. next-balance (run (new opening) cs) c k (run-places (new opening) cs (new-places opening)) l;
       zero-sum = accounts-zero Sound done-sound accountable opening cs n;
       small = accounts-small Sound done-sound bounding (λ b c e s. sound-dealt b s c e) opening cs n;
       few = standing-few (run (new opening) cs) (h .standing);

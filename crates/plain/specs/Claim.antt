@@ -5,7 +5,7 @@ use mathlib.Core.Logic.{_≢_}
 use mathlib.Core.List.{List, [], map}
 use mathlib.Core.Bool.{Bool, true, not, _&&_}
 use lib.ListN.{length, getD}
-use lib.IntN.{pos, subℕ}
+use lib.IntN.{pos, subℕ, _+ℤ_}
 use lib.Dec.{eqb}
 use Rattle.laws.specs.Limits.{ACCOUNTS, MEMBERS, POSITIONS, AWARDS, SECURITIES}
 use Rattle.laws.specs.Lists.{All, range, only, sum, some}
@@ -95,6 +95,9 @@ pub record Claim (opening : Opening) (cs : List Call) : Type 0 where
       → latestPrice (run (new opening) cs) security ≡ latestBy opening (acceptedEvents (new opening) cs) security
   -- each account is the charging rules summed over the list
   pub accounts' : (k : ℕ) → k < ACCOUNTS → balance (run (new opening) cs) k ≡ subℕ (creditOf k (allCharges (new opening) cs)) (debitOf k (allCharges (new opening) cs))
+  -- and a next call moves it by the call's own charges alone
+  pub booked : (c : Call) (k : ℕ) → k < ACCOUNTS
+      → balance (next (run (new opening) cs) c) k ≡ balance (run (new opening) cs) k +ℤ subℕ (creditOf k (charged (run (new opening) cs) c)) (debitOf k (charged (run (new opening) cs) c))
   -- all 64 add up to zero
   pub zero-sum : sumℤ (balance (run (new opening) cs)) (range 0 ACCOUNTS) ≡ pos 0
   -- "No account can leave plus or minus 10^17 cents"
