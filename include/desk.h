@@ -36,7 +36,7 @@ static inline const char *desk_reason(uint64_t refusal) {
     case 3: return "an ISIN is malformed";
     case 4: return "an ISIN stands earlier in the register";
     case 5: return "the file's count, width or length is wrong";
-    case 6: return "a kind is not 1 to 9";
+    case 6: return "a kind is not 1 to 10";
     case 7: return "a spare byte is not zero";
     case 27: return "a date is invalid or outside 2000 to 2099";
     case 28: return "the holidays are more than 64, or not strictly ascending";

@@ -5,6 +5,7 @@ use crate::refusal::{Located, Refusal};
 pub const MOST_EVENTS: usize = 2_048;
 pub const WIDTH: usize = 16;
 
+/// A pair-off names its long in the price field, with all its bits.
 #[derive(Clone, Copy, Debug, PartialEq, Eq)]
 pub enum Event {
     Trade { security: u16, seller: Party, buyer: Party, quantity: u32, price: u32 },
@@ -16,6 +17,7 @@ pub enum Event {
     Confirm { award: u16 },
     Cash { short: u16 },
     Close,
+    PairOff { short: u16, long: u32, quantity: u32 },
 }
 
 /// A side of a trade: a member, and the byte that says whether it trades for itself or for a client. Other bytes are kept
@@ -98,7 +100,7 @@ impl Event {
         Event::of(kind, named, [first, second], word(4), word(8))
     }
 
-    /// As `read`, from the fields. No other number than 1 to 9 is a kind.
+    /// As `read`, from the fields. No other number than 1 to 10 is a kind.
     pub fn of(kind: u8, named: u16, [first, second]: [Party; 2], quantity: u32, price: u32) -> Option<Event> {
         Some(match kind {
             1 => Event::Trade { security: named, seller: first, buyer: second, quantity, price },
@@ -110,6 +112,7 @@ impl Event {
             7 => Event::Confirm { award: named },
             8 => Event::Cash { short: named },
             9 => Event::Close,
+            10 => Event::PairOff { short: named, long: price, quantity },
             _ => return None,
         })
     }
@@ -125,6 +128,7 @@ impl Event {
             Event::Confirm { .. } => 7,
             Event::Cash { .. } => 8,
             Event::Close => 9,
+            Event::PairOff { .. } => 10,
         }
     }
 
@@ -139,6 +143,7 @@ impl Event {
             Event::Attempt { short } | Event::Award { short } | Event::Cash { short } => (short, nobody, nobody, 0, 0),
             Event::Confirm { award } => (award, nobody, nobody, 0, 0),
             Event::Close => (0, nobody, nobody, 0, 0),
+            Event::PairOff { short, long, quantity } => (short, nobody, nobody, quantity, long),
         };
         let mut body = [0; WIDTH];
         body[0..2].copy_from_slice(&named.to_le_bytes());

@@ -1,5 +1,5 @@
 //! The refusals of document 01, 'Why a call is turned down', and of document 02, Slip 1, 'The desk's page', Slip 3, 'How
-//! old is a price', and Slip 5, 'Own and client accounts', by their numbers there.
+//! old is a price', Slip 5, 'Own and client accounts', and Slip 7, 'Pair-off', by their numbers there.
 
 #[derive(Clone, Copy, Debug, PartialEq, Eq)]
 pub enum Refusal {
@@ -36,6 +36,7 @@ pub enum Refusal {
     PageSize = 31,
     OldPrice = 32,
     TradeKind = 33,
+    NoPair = 34,
 }
 
 /// A refusal of a register or an event file, with the number of the security or event that it meets, if it meets one.

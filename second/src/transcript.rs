@@ -107,13 +107,13 @@ impl Page {
     }
 
     fn position(&mut self, number: i64, position: &Position) {
-        let &Position { member, side, netted, delivered, bought_in, cash, .. } = position;
+        let &Position { member, side, netted, delivered, bought_in, cash, paired, .. } = position;
         self.words("s", &[number, member.into()]);
         let side = match side {
             Side::Short => " D",
             Side::Long => " R",
         };
-        self.line(side, &[netted, delivered, bought_in, cash, position.open()].map(i64::from));
+        self.line(side, &[netted, delivered, bought_in, cash, paired, position.open()].map(i64::from));
     }
 
     fn line(&mut self, first: &str, numbers: &[i64]) {

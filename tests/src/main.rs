@@ -52,6 +52,7 @@ fn exhaustive(tests: &mut Tests, calendar: &Calendar) {
     compare::one_price::exhaustive(tests);
     compare::kinds::exhaustive(tests);
     compare::cover::exhaustive(tests);
+    compare::pair_off::exhaustive(tests);
     compare::sheets::exhaustive(tests);
     compare::lines::exhaustive(tests);
     compare::page::exhaustive(tests);
@@ -77,6 +78,7 @@ fn seeded(round: &mut Round, calendar: &Calendar) {
     compare::one_price::seeded(round);
     compare::kinds::seeded(round);
     compare::cover::seeded(round);
+    compare::pair_off::seeded(round);
     compare::sheets::seeded(round);
     compare::lines::seeded(round);
     compare::page::seeded(round);

@@ -54,7 +54,7 @@ pub struct Kind {
     pub instead: Option<&'static str>,
 }
 
-pub const KINDS: [Kind; 10] = [
+pub const KINDS: [Kind; 11] = [
     Kind { name: "trade", pair: trades, instead: Some("price") },
     Kind { name: "price", pair: prices, instead: None },
     Kind { name: "delivery", pair: deliveries, instead: None },
@@ -65,6 +65,7 @@ pub const KINDS: [Kind; 10] = [
     Kind { name: "confirm", pair: confirms, instead: None },
     Kind { name: "cash", pair: cash_settlements, instead: Some("delivery") },
     Kind { name: "close", pair: closes, instead: None },
+    Kind { name: "pair-off", pair: pair_offs, instead: None },
 ];
 
 /// Trades on a day that is not closed, or prices in their place. A book takes no more than 512 trades, so the fullest
@@ -133,6 +134,18 @@ fn cash_settlements(positions: usize) -> Pair {
 /// Closes that fine each short; no trades are netted.
 fn closes(positions: usize) -> Pair {
     with_more(Input::new(1, positions, 5), ACCEPTED, std::iter::repeat(Event::Close))
+}
+
+/// Pair-offs of one unit, of one short after the other. The trades of day 2 are those of day 1 with seller and buyer
+/// exchanged, so that each seller of day 1 has a long as well.
+fn pair_offs(positions: usize) -> Pair {
+    let first_day = first_day_trades(positions);
+    let trades = 0..positions / 2 - first_day;
+    let book = Input::of_two_days(1, positions, 5, trades.clone().map(exchanged));
+    // The buyers of day 2 have lower numbers than its sellers, so that the longs come first.
+    let long = |trade| (1 + 2 * first_day + trade) as u32;
+    let pair_off = |trade| Event::PairOff { short: short(trade, positions), long: long(trade), quantity: 1 };
+    with_more(book, ACCEPTED, trades.cycle().map(pair_off))
 }
 
 /// A file of closes alone, on a book without positions.
@@ -224,6 +237,16 @@ fn trade(at: usize) -> Event {
     Event::Trade { security: security(at), seller, buyer, quantity, price: PRICE }
 }
 
+/// A trade with seller and buyer exchanged.
+fn exchanged(at: usize) -> Event {
+    match trade(at) {
+        Event::Trade { security, seller, buyer, quantity, price } => {
+            Event::Trade { security, seller: buyer, buyer: seller, quantity, price }
+        }
+        other => other,
+    }
+}
+
 fn price(at: usize) -> Event {
     Event::Price { security: security(at), price: PRICE + at as u32 }
 }
@@ -265,11 +288,15 @@ impl Input {
     /// A book of so many positions and securities of one class, on a day after the second. The shorts of the second
     /// trade day are at r = day - 4.
     fn unpriced(class: u8, positions: usize, day: usize) -> Input {
+        Input::of_two_days(class, positions, day, (first_day_trades(positions)..positions / 2).map(trade))
+    }
+
+    /// As `unpriced`, with these trades on the second day.
+    fn of_two_days(class: u8, positions: usize, day: usize, second: impl Iterator<Item = Event>) -> Input {
         let mut input = Input { register: register_of(class), calls: Vec::new(), positions };
-        let first_day = first_day_trades(positions);
-        input.calls.extend(accepted((0..first_day).map(trade)));
+        input.calls.extend(accepted((0..first_day_trades(positions)).map(trade)));
         input.close(1);
-        input.calls.extend(accepted((first_day..positions / 2).map(trade)));
+        input.calls.extend(accepted(second));
         input.close(day - 2);
         input
     }
@@ -312,7 +339,7 @@ impl Input {
                 return Err(format!("{event:?} has refusal {refusal} instead of {meant}"));
             }
         }
-        let is_discharge = |call: &&Call| matches!(call.0.kind(), 3 | 7 | 8) && call.1 == ACCEPTED;
+        let is_discharge = |call: &&Call| matches!(call.0.kind(), 3 | 7 | 8 | 10) && call.1 == ACCEPTED;
         let discharges = self.calls.iter().filter(is_discharge).count();
         let [pieces, positions] = [lines("p").count(), lines("s").count()];
         if (pieces, positions) != (discharges, self.positions) {

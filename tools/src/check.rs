@@ -136,7 +136,7 @@ fn event(file: &[u8], refusal: Refusal, number: usize) -> String {
     let count = usize::from(u16::from_le_bytes([file[0], file[1]]));
     let kind = file[3 + number];
     if refusal == Refusal::Kind {
-        return format!("the kind is {kind} and not 1 to 9");
+        return format!("the kind is {kind} and not 1 to 10");
     }
     let start = 4 + count + WIDTH * (number - 1);
     let body = &file[start..start + WIDTH];

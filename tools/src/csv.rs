@@ -7,7 +7,7 @@
 //! - `security`, `isin`: of the trade or price, or of the position. An event has its position's where it was accepted.
 //! - `position`: the event's position; the short of a piece or charge; a position's own number. A confirmation has the
 //!   short that it discharged.
-//! - `long`: the long of a piece or payment.
+//! - `long`: the long that a pair-off names, whether it is there or not; the long of a piece or payment.
 //! - `award`: the award of a confirmation, buy-in difference or fine.
 //! - `member`: seller or offerer; the member of the position or of the piece's short; who pays; the account. 0 is the
 //!   house.
@@ -16,14 +16,14 @@
 //! - `counterparty`: buyer; the member of the piece's long; who is paid.
 //! - `counterparty_kind`: as `member_kind`, of the buyer or the piece's long.
 //! - `side`: of a position: short or long.
-//! - `stated_quantity`: what a trade, delivery or offer says, whether it is accepted or not.
+//! - `stated_quantity`: what a trade, delivery, offer or pair-off says, whether it is accepted or not.
 //! - `quantity`: what the player answers to the event; the units of a piece or charge.
 //! - `price`: of a trade, price or offer; of the award in a buy-in difference; a unit's price in a payment, one for all
 //!   payments of a cash settlement.
 //! - `latest_price`: the security's, where a charge comes from it.
 //! - `reference_price`: of a position; of the short in a buy-in difference or payment.
-//! - `delivery_day`, `netted`, `delivered`, `bought_in`, `cash`, `open`: of a position.
-//! - `manner`: of a piece: delivered, bought in or cash.
+//! - `delivery_day`, `netted`, `delivered`, `bought_in`, `cash`, `paired`, `open`: of a position.
+//! - `manner`: of a piece: delivered, bought in, cash or paired.
 //! - `charge`: what the charge is for.
 //! - `cents`: of a piece, charge or account. A charge below 0 is a credit to `member`.
 //! - `refusal`, `reason`: of an event, its refusal's number or 0, and why in words.
@@ -109,6 +109,7 @@ struct Row {
     delivered: Field,
     bought_in: Field,
     cash: Field,
+    paired: Field,
     open: Field,
     manner: Field,
     charge: Field,
@@ -120,7 +121,7 @@ struct Row {
 
 impl Row {
     /// The columns in their order, by name.
-    fn fields(&self) -> [(&'static str, &Field); 32] {
+    fn fields(&self) -> [(&'static str, &Field); 33] {
         [
             ("record", &self.record),
             ("event", &self.event),
@@ -147,6 +148,7 @@ impl Row {
             ("delivered", &self.delivered),
             ("bought_in", &self.bought_in),
             ("cash", &self.cash),
+            ("paired", &self.paired),
             ("open", &self.open),
             ("manner", &self.manner),
             ("charge", &self.charge),
@@ -204,6 +206,7 @@ fn kind(event: &Event) -> &'static str {
         Event::Confirm { .. } => "confirm",
         Event::Cash { .. } => "cash",
         Event::Close => "close",
+        Event::PairOff { .. } => "pair",
     }
 }
 
@@ -252,6 +255,9 @@ fn stated(played: &Played, step: &Step) -> Row {
         }
         Event::Confirm { award } => Row { award: number(award), ..row },
         Event::Close => row,
+        Event::PairOff { short, long, quantity } => {
+            Row { position: number(short), long: number(long), stated_quantity: number(quantity), ..row }
+        }
     }
 }
 
@@ -263,7 +269,8 @@ fn position(step: &Step) -> Option<u16> {
         | Event::Attempt { short }
         | Event::Offer { short, .. }
         | Event::Award { short }
-        | Event::Cash { short } => Some(short),
+        | Event::Cash { short }
+        | Event::PairOff { short, .. } => Some(short),
         Event::Confirm { .. } => {
             step.result.as_ref().ok().and_then(|done| done.pieces.first()).map(|piece| piece.short)
         }
@@ -303,17 +310,18 @@ fn positions(played: &Played) -> impl Iterator<Item = Row> + '_ {
 
 fn position_row(played: &Played, step: &Step, position: u16) -> Row {
     let held = played.position(position);
-    let &Position { member, side, delivery_day, reference_price, netted, delivered, bought_in, cash, .. } = held;
+    let &Position { member, side, netted, delivered, bought_in, cash, paired, .. } = held;
     Row {
         member: number(member),
         member_kind: kind_of(held),
         side: text(side_name(side)),
-        reference_price: number(reference_price),
-        delivery_day: number(delivery_day),
+        reference_price: number(held.reference_price),
+        delivery_day: number(held.delivery_day),
         netted: number(netted),
         delivered: number(delivered),
         bought_in: number(bought_in),
         cash: number(cash),
+        paired: number(paired),
         open: number(held.open()),
         ..Row::of("position", step).of_position(played, position)
     }

@@ -40,6 +40,7 @@ A text file has first a line for each security, then a line for each event:
     award POSITION
     confirm AWARD
     cash POSITION
+    pair SHORT LONG QUANTITY
     close
 
 Securities and positions are numbered from 1. Blank lines and comments after a # are skipped, 1,000 and 1_000 are

@@ -28,6 +28,7 @@ pub struct Position {
     pub delivered: u64,
     pub bought_in: u64,
     pub cash: u64,
+    pub paired: u64,
     pub open: u64,
 }
 
@@ -55,7 +56,7 @@ impl Line {
                 quantity: whole(quantity)?,
                 cents: whole(cents)?,
             }),
-            ["s", number, member, side, netted, delivered, bought_in, cash, open] => Line::Position(Position {
+            ["s", number, member, side, netted, delivered, bought_in, cash, paired, open] => Line::Position(Position {
                 number: whole(number)?,
                 member: whole(member)?,
                 side: side_of(side)?,
@@ -63,6 +64,7 @@ impl Line {
                 delivered: whole(delivered)?,
                 bought_in: whole(bought_in)?,
                 cash: whole(cash)?,
+                paired: whole(paired)?,
                 open: whole(open)?,
             }),
             ["a", account, cents] => Line::Account { account: whole(account)?, cents: signed(cents)? },

@@ -231,6 +231,7 @@ pub fn manner_name(manner: Manner) -> &'static str {
         Manner::Delivered => "delivered",
         Manner::BoughtIn => "bought in",
         Manner::Cash => "cash",
+        Manner::Paired => "paired",
     }
 }
 

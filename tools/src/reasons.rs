@@ -2,7 +2,9 @@
 
 use crate::kinds;
 use crate::numbers::{counted, grouped};
-use second::book::{Book, Position, GREATEST_PRICE, GREATEST_QUANTITY, LAST_DAY, MEMBERS, MOST_OFFERS, MOST_TRADES};
+use second::book::{
+    Book, Position, Side, GREATEST_PRICE, GREATEST_QUANTITY, LAST_DAY, MEMBERS, MOST_OFFERS, MOST_TRADES,
+};
 use second::events::{Event, Party};
 use second::refusal::Refusal;
 
@@ -11,6 +13,8 @@ use second::refusal::Refusal;
 struct Named {
     security: u16,
     short: u16,
+    /// Of a pair-off, whose field for it may hold more than any position's number.
+    long: u32,
     award: u16,
     members: Vec<(&'static str, u8)>,
     /// The bytes of the kinds of a trade's sides.
@@ -36,6 +40,7 @@ fn named(event: &Event) -> Named {
         }
         Event::Confirm { award } => Named { award, ..Named::default() },
         Event::Close => Named::default(),
+        Event::PairOff { short, long, quantity } => Named { short, long, quantity, ..Named::default() },
     }
 }
 
@@ -55,6 +60,7 @@ pub fn reason(book: &Book, event: &Event, refusal: Refusal) -> String {
         Refusal::TradesFull => format!("{MOST_TRADES} trades are held"),
         Refusal::Long => format!("position {} is long", grouped(named.short)),
         Refusal::Window => window(book, event, named.short),
+        Refusal::NoPair => no_pair(book, &named),
         Refusal::Auction => auction(book, event, named.short),
         Refusal::NoPrice => format!("security {} never had a price", security_of(book, named.short)),
         Refusal::OldPrice => old_price(book, named.short),
@@ -73,12 +79,13 @@ pub fn reason(book: &Book, event: &Event, refusal: Refusal) -> String {
     }
 }
 
-fn place(short: u16) -> usize {
-    usize::from(short) - 1
+/// The place of a position that is there.
+fn place(number: impl Into<u32>) -> usize {
+    number.into() as usize - 1
 }
 
-fn position(book: &Book, short: u16) -> &Position {
-    &book.positions[place(short)]
+fn position(book: &Book, number: impl Into<u32>) -> &Position {
+    &book.positions[place(number)]
 }
 
 fn security_of(book: &Book, short: u16) -> usize {
@@ -116,13 +123,32 @@ fn not_there(book: &Book, event: &Event, named: &Named) -> String {
             };
             format!("award {} is not there; {made}", grouped(named.award))
         }
-        _ => {
-            let there = match book.positions.len() {
-                0 => "there is none yet".to_string(),
-                count => format!("there are positions 1 to {}", grouped(count as u64)),
-            };
-            format!("position {} is not there; {there}", grouped(named.short))
+        Event::PairOff { .. } => positions_not_there(book, [named.short.into(), named.long]),
+        _ => position_not_there(book, named.short.into()),
+    }
+}
+
+fn position_not_there(book: &Book, number: u32) -> String {
+    format!("position {} is not there; {}", grouped(number), positions_there(book))
+}
+
+/// Either position of a pair-off, or both.
+fn positions_not_there(book: &Book, [short, long]: [u32; 2]) -> String {
+    let is_there = |number: u32| (1..=book.positions.len()).contains(&(number as usize));
+    match [is_there(short), is_there(long)] {
+        [false, false] if short != long => {
+            let [short, long] = [short, long].map(grouped);
+            format!("positions {short} and {long} are not there; {}", positions_there(book))
         }
+        [false, _] => position_not_there(book, short),
+        _ => position_not_there(book, long),
+    }
+}
+
+fn positions_there(book: &Book) -> String {
+    match book.positions.len() {
+        0 => "there is none yet".to_string(),
+        count => format!("there are positions 1 to {}", grouped(count as u64)),
     }
 }
 
@@ -144,14 +170,16 @@ fn price(price: u32) -> String {
 fn window(book: &Book, event: &Event, short: u16) -> String {
     let position = position(book, short);
     let class = book.securities[position.security].class;
-    let since = match position.r(book.day) {
-        None => format!("the position falls due on day {}", grouped(position.delivery_day)),
-        Some(days) => {
+    let since = match (event, position.r(book.day)) {
+        // It names two positions.
+        (Event::PairOff { .. }, None) => format!("position {} {}", grouped(short), falls_due(position)),
+        (_, None) => format!("the position {}", falls_due(position)),
+        (_, Some(days)) => {
             format!("today is {} after the delivery day, {}", counted(days, "day"), grouped(position.delivery_day))
         }
     };
     let window = match (event, class) {
-        (Event::Delivery { .. }, _) => return format!("outside the window: {since}"),
+        (Event::Delivery { .. } | Event::PairOff { .. }, _) => return format!("outside the window: {since}"),
         (Event::Attempt { .. }, 1) => "an attempt is made on days 5 to 7 after it",
         (Event::Attempt { .. }, _) => "an attempt is made on days 27, 37, 47 and so on after it",
         (_, 1) => "a cash settlement is made from day 8 after it on",
@@ -160,10 +188,39 @@ fn window(book: &Book, event: &Event, short: u16) -> String {
     format!("outside the window: {since}, and {window}")
 }
 
+fn falls_due(position: &Position) -> String {
+    format!("falls due on day {}", grouped(position.delivery_day))
+}
+
+fn no_pair(book: &Book, named: &Named) -> String {
+    let [short, other] = [named.short.into(), named.long].map(|number| position(book, number));
+    let why = match named.long == u32::from(named.short) {
+        true => "it is the short itself".to_string(),
+        false => why_no_pair(short, other, book.day),
+    };
+    let wanted = format!("{} in security {}", kinds::holder(short), short.security + 1);
+    format!("position {} is no due long of {wanted}: {why}", grouped(named.long))
+}
+
+/// All in which the second position of a pair-off is not as it has to be.
+fn why_no_pair(short: &Position, other: &Position, today: u16) -> String {
+    let faults = [
+        (other.side == Side::Short, "it is short".to_string()),
+        (!other.is_due(today), format!("it {}", falls_due(other))),
+        (other.member != short.member, format!("its member is {}", other.member)),
+        (other.kind != short.kind, format!("its kind is {}", kinds::name(other.kind))),
+        (other.security != short.security, format!("its security is {}", other.security + 1)),
+    ];
+    let faults: Vec<String> = faults.into_iter().filter(|(applies, _)| *applies).map(|(_, words)| words).collect();
+    faults.join(", and ")
+}
+
 fn auction(book: &Book, event: &Event, short: u16) -> String {
     let running = book.auction.as_ref().map(|auction| auction.short + 1);
     match (event, running) {
-        (Event::Delivery { .. }, _) => format!("the auction runs on position {}", grouped(short)),
+        (Event::Delivery { .. } | Event::PairOff { .. }, _) => {
+            format!("the auction runs on position {}", grouped(short))
+        }
         (Event::Attempt { .. } | Event::Close, Some(other)) => {
             format!("an auction runs, on position {}", grouped(other as u64))
         }
@@ -196,21 +253,37 @@ fn ceiling(book: &Book, price: u32) -> String {
 }
 
 fn not_free(book: &Book, event: &Event, named: &Named) -> String {
-    let short = grouped(named.short);
     match event {
-        Event::Delivery { .. } => {
-            let [free, open] = [book.free(place(named.short)), position(book, named.short).open()];
-            let units = counted(free, "unit");
-            let verb = if free == 1 { "is" } else { "are" };
-            match open - free {
-                0 => format!("{units} of position {short} {verb} open"),
-                awarded => format!(
-                    "{units} of position {short} {verb} free: {} open, of which awards that are not confirmed take {}",
-                    grouped(open),
-                    grouped(awarded)
-                ),
-            }
-        }
-        _ => format!("nothing of position {short} is open"),
+        Event::Delivery { .. } => free_of_short(book, named.short),
+        Event::PairOff { .. } => too_much_to_pair(book, named),
+        _ => format!("nothing of position {} is open", grouped(named.short)),
     }
+}
+
+/// What is free of a short, which is less than is wanted of it.
+fn free_of_short(book: &Book, short: u16) -> String {
+    let [free, open] = [book.free(place(short)), position(book, short).open()];
+    match open - free {
+        0 => units_of(open, short.into(), "open"),
+        awarded => format!(
+            "{}: {} open, of which awards that are not confirmed take {}",
+            units_of(free, short.into(), "free"),
+            grouped(open),
+            grouped(awarded)
+        ),
+    }
+}
+
+/// As `7 units of position 1 are open`.
+fn units_of(units: u32, position: u32, state: &str) -> String {
+    let verb = if units == 1 { "is" } else { "are" };
+    format!("{} of position {} {verb} {state}", counted(units, "unit"), grouped(position))
+}
+
+/// Either position of a pair-off may have less than is to be paired. No awards are made on a long.
+fn too_much_to_pair(book: &Book, named: &Named) -> String {
+    let open = position(book, named.long).open();
+    let of_short = (named.quantity > book.free(place(named.short))).then(|| free_of_short(book, named.short));
+    let of_long = (named.quantity > open).then(|| units_of(open, named.long, "open"));
+    of_short.into_iter().chain(of_long).collect::<Vec<_>>().join(", and ")
 }

@@ -128,6 +128,7 @@ fn manner(event: &Event) -> Option<Manner> {
         Event::Delivery { .. } => Some(Manner::Delivered),
         Event::Confirm { .. } => Some(Manner::BoughtIn),
         Event::Cash { .. } => Some(Manner::Cash),
+        Event::PairOff { .. } => Some(Manner::Paired),
         _ => None,
     }
 }
@@ -200,7 +201,7 @@ impl Walked<'_> {
 
 /// The walk ends at the figures that the player has.
 fn figures_meet(walked: &Walked) -> Result<(), String> {
-    let Position { number, delivered, bought_in, cash, open, .. } = walked.position.0;
+    let Position { number, delivered, bought_in, cash, paired, open, .. } = walked.position.0;
     if walked.open() != open {
         let [left, open] = [counted(walked.open(), "unit"), grouped(open)];
         return Err(format!("position {number}: its pieces leave {left} open, and the player has {open}"));
@@ -209,6 +210,7 @@ fn figures_meet(walked: &Walked) -> Result<(), String> {
         ("delivered", Manner::Delivered, delivered),
         ("bought in", Manner::BoughtIn, bought_in),
         ("in cash", Manner::Cash, cash),
+        ("paired", Manner::Paired, paired),
     ];
     for (name, manner, printed) in manners {
         let units = walked.units(manner);
@@ -316,7 +318,7 @@ fn text(side: Side, played: &Played, positions: &[Both], walked: &[Walked]) -> S
         if !rows.is_empty() {
             let lines = [&head].into_iter().chain(rows).map(|row| aligned(row, &widths, PIECE_WORDS));
             text.extend(lines.map(|line| format!("  {line}\n")));
-            text += &format!("  {}\n", by_manner(walked));
+            text.extend(by_manner(walked).map(|line| format!("  {line}\n")));
         }
     }
     if walked.is_empty() {
@@ -368,12 +370,15 @@ fn rows(other: Side, positions: &[Both], walked: &Walked) -> Vec<Row> {
     walked.pieces.iter().map(row).collect()
 }
 
-/// The units by manner; what is left open stands beside the last piece.
-fn by_manner(walked: &Walked) -> String {
+/// The units by manner; what is left open stands beside the last piece. Paired units, where there are some, have a line of
+/// their own: with them a line could be longer than any other of the walk.
+fn by_manner(walked: &Walked) -> impl Iterator<Item = String> {
     let [delivered, bought_in, cash] =
         [Manner::Delivered, Manner::BoughtIn, Manner::Cash].map(|manner| grouped(walked.units(manner)));
     let cents = counted(walked.cents(), "cent");
-    format!("{delivered} delivered, {bought_in} bought in, {cash} in cash for {cents}")
+    let paired = walked.units(Manner::Paired);
+    let paired = (paired > 0).then(|| format!("{} paired", grouped(paired)));
+    [format!("{delivered} delivered, {bought_in} bought in, {cash} in cash for {cents}")].into_iter().chain(paired)
 }
 
 /// Both walks for each pair, then in all.

@@ -4,7 +4,7 @@ use crate::kinds;
 use crate::numbers::{counted, grouped};
 use crate::played::{holder, side_name, Done, Kind, Played, Refused, Step, KINDS};
 use crate::table::{aligned, widths, Row};
-use second::book::{Award, Cause, Charge, Longs, Piece, Position};
+use second::book::{Award, Cause, Charge, Longs, Manner, Piece, Position};
 use second::events::Event;
 
 /// All of a play.
@@ -21,7 +21,7 @@ pub fn refused(played: &Played) -> String {
 fn event(played: &Played, step: &Step) -> String {
     let mut text = format!("{}. {}: {}\n", step.number, place(step), headline(step));
     if let Ok(done) = &step.result {
-        let details = details(played, step, done);
+        let details = details(played, done);
         text.extend(details.into_iter().map(|line| format!("   {line}\n")));
     }
     text
@@ -62,6 +62,9 @@ pub fn call(step: &Step) -> String {
         Event::Confirm { award } => format!("confirmation of award {award}"),
         Event::Cash { short } => format!("cash settlement of position {short}"),
         Event::Close => format!("close of day {}", grouped(step.day)),
+        Event::PairOff { short, long, quantity } => {
+            format!("pair-off of {} of position {short} with position {long}", counted(quantity, "unit"))
+        }
     }
 }
 
@@ -77,10 +80,10 @@ fn answer(event: &Event, quantity: u32) -> String {
 }
 
 /// A line for all that an accepted call did, in the order in which it happened.
-fn details(played: &Played, step: &Step, done: &Done) -> Vec<String> {
+fn details(played: &Played, done: &Done) -> Vec<String> {
     let ceiling = done.ceiling.map(|ceiling| format!("the ceiling is {}", grouped(ceiling)));
     let awards = done.awards.iter().map(|&(number, award)| award_words(number, &award));
-    let pieces = done.pieces.iter().map(|piece| piece_words(played, step, piece));
+    let pieces = done.pieces.iter().map(|piece| piece_words(played, piece));
     // A short of which nothing is open has no fine to speak of.
     let charges = done.charges.iter().filter(|charge| !is_idle(charge)).map(|charge| charge_words(played, charge));
     let made = done.positions.clone().map(|place| made_words(place + 1, &played.book.positions()[place]));
@@ -97,15 +100,17 @@ pub fn award_words(number: usize, award: &Award) -> String {
     format!("award {number}: {} of member {offerer} at {}", counted(quantity, "unit"), grouped(price))
 }
 
-fn piece_words(played: &Played, step: &Step, piece: &Piece) -> String {
-    let &Piece { short, long, quantity, cents, .. } = piece;
+fn piece_words(played: &Played, piece: &Piece) -> String {
+    let &Piece { short, long, quantity, manner, cents } = piece;
     let [from, to] =
         [short, long].map(|number| format!("position {number} ({})", kinds::holder(played.position(number))));
-    let price = match step.event {
-        Event::Cash { .. } => format!(" for {}", counted(cents, "cent")),
-        _ => String::new(),
-    };
-    format!("{} from {from} to {to}{price}", counted(quantity, "unit"))
+    let units = counted(quantity, "unit");
+    match manner {
+        Manner::Delivered | Manner::BoughtIn => format!("{units} from {from} to {to}"),
+        Manner::Cash => format!("{units} from {from} to {to} for {}", counted(cents, "cent")),
+        // Nothing changes hands.
+        Manner::Paired => format!("{units} of {from} paired with {to}"),
+    }
 }
 
 fn made_words(number: usize, position: &Position) -> String {
@@ -187,12 +192,12 @@ fn value(quantity: u32, short: u16, latest: u32) -> String {
 
 fn positions(played: &Played) -> String {
     let lines = played.book.positions().iter().zip(1..).map(|(position, number)| {
-        let &Position { side, netted, delivered, bought_in, cash, .. } = position;
-        let [netted, delivered, bought_in, cash, open] =
-            [netted, delivered, bought_in, cash, position.open()].map(grouped);
+        let &Position { side, netted, delivered, bought_in, cash, paired, .. } = position;
+        let [netted, delivered, bought_in, cash, paired, open] =
+            [netted, delivered, bought_in, cash, paired, position.open()].map(grouped);
         format!(
             "position {number}: {}, {}: {netted} netted, {delivered} delivered, {bought_in} bought in, {cash} settled \
-             in cash, {open} open\n",
+             in cash, {paired} paired, {open} open\n",
             kinds::holder(position),
             side_name(side)
         )

@@ -86,6 +86,7 @@ long-sheet b (event.Award a) n h = refl
 long-sheet b (event.Confirm c) n h = rw h
 long-sheet b (event.Cash c) n h = rw h
 long-sheet b event.Close n h = refl
+long-sheet b (event.PairOff x) n h = rw h
 
 -- 8. "The sheet has under 1,024 places", before any other reason
 short-sheet : (b : plain.Book) (e : Event) (n : ℕ) → isDischarge e ≡ true → ltb n 1024 ≡ true → refusal b (call e n) ≡ 8
@@ -99,6 +100,7 @@ short-sheet b (event.Award a) n d h = absurd (true≢false (sym d))
 short-sheet b (event.Confirm c) n d h = rw h
 short-sheet b (event.Cash c) n d h = rw h
 short-sheet b event.Close n d h = absurd (true≢false (sym d))
+short-sheet b (event.PairOff x) n d h = rw h
 
 -- an event that is no discharge hands out no piece
 none-handed : (b : plain.Book) (e : Event) → isDischarge e ≡ false → handsOut b e ≡ []
@@ -112,6 +114,7 @@ none-handed b (event.Award a) h = refl
 none-handed b (event.Confirm c) h = absurd (true≢false h)
 none-handed b (event.Cash c) h = absurd (true≢false h)
 none-handed b event.Close h = refl
+none-handed b (event.PairOff x) h = absurd (true≢false h)
 
 accepted-same : {A : Type 0} (n : ℕ) (x : A) → accepted n x x ≡ x
 accepted-same zero x = refl

@@ -1,4 +1,4 @@
--- One event, by the call of its kind: what the nine calls answer, as one.
+-- One event, by the call of its kind: what the ten calls answer, as one.
 use Prim.Native.Nat.{ℕ}
 use mathlib.Core.Path.{_≡_}
 use mathlib.Core.List.{[]}

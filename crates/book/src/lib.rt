@@ -26,6 +26,7 @@ use events::Confirm;
 use events::Delivery;
 use events::Event;
 use events::Offer;
+use events::PairOff;
 use events::Price;
 use events::Trade;
 use laws::BusinessDay;
@@ -38,7 +39,7 @@ use tables::Pieces;
 
 pub struct Book {
     core: Core,
-    rows: [u32; 11264],
+    rows: [u32; 12288],
     trades: [u32; 3584],
     awards: [u32; 1280],
     counts: [u32; 2048],
@@ -66,7 +67,7 @@ pub struct Opened {
 // One value of a core and the tables that were lent with it.
 pub fn made_of(
     core: Core,
-    rows: [u32; 11264],
+    rows: [u32; 12288],
     trades: [u32; 3584],
     awards: [u32; 1280],
     counts: [u32; 2048],
@@ -172,6 +173,7 @@ fn is_discharge(e: Event) -> bool
         Event::Confirm(_) => true,
         Event::Cash(_) => true,
         Event::Close => false,
+        Event::PairOff(_) => true,
     }
 }
 
@@ -189,6 +191,7 @@ fn manner_of(e: Event) -> Manner
         Event::Confirm(_) => Manner::BoughtIn,
         Event::Cash(_) => Manner::Cash,
         Event::Close => Manner::Delivered,
+        Event::PairOff(_) => Manner::Paired,
     }
 }
 
@@ -281,6 +284,13 @@ pub fn cash(book: Book, sheet: usize, c: Cash) -> Discharged
     ensures { λ r. ⌜ Stepped book (event.Cash c) sheet r ⌝ }
 {
     step(book, sheet, Event::Cash(c))
+}
+
+pub fn pair_off(book: Book, sheet: usize, x: PairOff) -> Discharged
+    requires { ⌜ Valid book ⌝ }
+    ensures { λ r. ⌜ Stepped book (event.PairOff x) sheet r ⌝ }
+{
+    step(book, sheet, Event::PairOff(x))
 }
 
 // An event that is no discharge: its call has no sheet, and no piece is handed out.

@@ -88,7 +88,7 @@ numbered b a h =
       securities = all-of _ (λ p. Within 1 32 (p .security)) (heldIn (a .rows) (b .positions)) (λ p f. f .security) (accounted (keptOf b a) (h .valid));
     }
 
-module _ (b : Core) (a : Numbers) (t : Taken b a (call event.Close 0)) (zs cs : List ℕ) (raised : Raised) (count : ℕ) (l : Ledger) (long : length zs ≡ 11264)
+module _ (b : Core) (a : Numbers) (t : Taken b a (call event.Close 0)) (zs cs : List ℕ) (raised : Raised) (count : ℕ) (l : Ledger) (long : length zs ≡ 12288)
     (posts : l ≡ posted (b .ledger) (closeChargesOf (awardTable (a .awards) (b .awards)) (positionTable (a .rows) (b .positions)) (b .prices) (b .opening .register) (b .day)))
     (counted : Counted (b .day .0 + 1) (heldIn (a .rows) (b .positions)) (raised .words .words) cs) (late : LateBefore (b .day .0 + 1) (heldIn (a .rows) (b .positions)) (raised .late))
     (day : DayNetted (positionTable (a .rows) (b .positions)) (tradeTable (a .trades) (b .trades) (b .netted)) (b .day) (b .opening .register .count) (positionTable zs count)) where

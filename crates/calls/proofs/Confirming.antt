@@ -4,7 +4,7 @@ use native.Mathlib.Omega.{arith}
 use mathlib.Core.Path.{_≡_, sym, _∙_}
 use mathlib.Core.Logic.{_≢_}
 use mathlib.Core.List.{List, [], _∷_}
-use lib.ListN.{length, take, getD}
+use lib.ListN.{length, getD}
 use Rattle.rules.specs.Charges.{buyInCharge}
 use Rattle.events.specs.declared.Confirm.{Confirm}
 use Rattle.events.specs.declared.Event.the-variants as event
@@ -22,7 +22,6 @@ use Rattle.plain.specs.Invariants.{AwardFits}
 use Rattle.tables.specs.Tables as table
 use Rattle.tables.specs.Lent.{awardTable, rowOf}
 use Rattle.rows.specs.Rows.{awardsOf}
-use Rattle.pieces.specs.Sheet.{piecesOf}
 use Rattle.laws.specs.Refusals.{first}
 use Rattle.auction.specs.Awards.{Confirmable, Confirmed}
 use Rattle.ledger.specs.Tabled.{Chargeable}
@@ -33,7 +32,7 @@ use Rattle.calls.specs.declared.Core.{Core}
 use Rattle.calls.specs.declared.Followed.{Followed}
 use Rattle.calls.specs.View.{Numbers, numbers, keptOf, bookOf, Held, Taken, CalledOn, Discharging, Discharged}
 use Rattle.calls.specs.Cores.{dischargedCore}
-use Rattle.calls.proofs.Returns.{refused-on, taken-called}
+use Rattle.calls.proofs.Returns.{refused-on, taken-on}
 use Rattle.calls.proofs.Walking.{row-is, discharging}
 use Rattle.plain.proofs.Numbered.{nth-take, nth-all}
 
@@ -46,7 +45,7 @@ module _ (b : Core) (a : Numbers) (h : Held b a) (c : Confirm) where
   pub confirm-missing : (number : ℕ) (sheet : List ℕ) → number ≡ first (lookupReasons 1024 (b .awards) (c .award)) → number ≢ 0 → length sheet ≡ 4096
       → CalledOn b a (call (event.Confirm c) 1024) manner.BoughtIn sheet b a sheet (outcome.Refused number) 0
   confirm-missing number sheet e some long =
-      refused-on b a (call (event.Confirm c) 1024) manner.BoughtIn sheet number h (missing-number 1024 _ _ _ _ (confirm-split (keptOf b a) (h .valid) c 1024) number e some) some long
+      refused-on b a (call (event.Confirm c) 1024) manner.BoughtIn sheet number h (missing-number (lookupReasons 1024 _ _) _ _ (confirm-split (keptOf b a) (h .valid) c 1024) number e some) some long
 
   module _ (award : Award) (number : ℕ) (there : first (lookupReasons 1024 (b .awards) (c .award)) ≡ 0) (row : award ≡ getD (awardsOf (a .awards)) (c .award - 1) noAward) (is : number ≡ first (confirmReasons award)) where
     number-is : refusal (bookOf b a) (call (event.Confirm c) 1024) ≡ number
@@ -98,11 +97,5 @@ module _ (b : Core) (a : Numbers) (c : Confirm) (t : Taken b a (call (event.Conf
     unfolding table.pieces
     confirm-done zs ws cs sheet left f made l w posts marked long =
         let r = bought-in (keptOf b a) (t .held .valid) c award p _ l (awardTable ws (b .awards)) award-is (own ∙ row-is b a (t .held) (award .position) short-there) (w .dealt) posts marked in
-        record {
-          called =
-              taken-called b a (call (event.Confirm c) 1024) (dischargedCore b f l) (numbers zs (a .trades) ws cs) (award .quantity) (take made (piecesOf manner.BoughtIn left)) (t .held) (t .accepted) (r .quantity) (r .pieces) (r .book) (r .fits)
-              (record { rows = w .rows-length; trades = t .held .lent .trades; awards = long; follows = w .follows });
-          places = w .sheet-length;
-          few = w .dealt .pieces-fit .held;
-          kept = λ n. absurd (n (t .accepted));
-        }
+        taken-on b a (call (event.Confirm c) 1024) manner.BoughtIn sheet (dischargedCore b f l) (numbers zs (a .trades) ws cs) left (award .quantity) made (t .held) (t .accepted) (r .quantity) (r .pieces) (r .book) (r .fits)
+        (record { rows = w .rows-length; trades = t .held .lent .trades; awards = long; follows = w .follows }) (w .sheet-length) (w .dealt .pieces-fit .held)

@@ -3,7 +3,7 @@ use Prim.Native.Nat.{ℕ, _-_}
 use mathlib.Core.Path.{_≡_, _∙_}
 use mathlib.Core.Logic.{_≢_}
 use mathlib.Core.List.{List}
-use lib.ListN.{length, take}
+use lib.ListN.{length}
 use Rattle.events.specs.declared.Delivery.{Delivery}
 use Rattle.events.specs.declared.Event.the-variants as event
 use Rattle.plain.specs.declared.Position.{Position}
@@ -15,21 +15,20 @@ use Rattle.plain.specs.Refusals.{lookupReasons, deliveryReasons, refusal}
 use Rattle.plain.proofs.Accepted.{delivery-taken}
 use Rattle.tables.specs.Tables as table
 use Rattle.tables.specs.Lent.{rowOf}
-use Rattle.pieces.specs.Sheet.{piecesOf}
 use Rattle.laws.specs.Refusals.{first}
 use Rattle.kept.proofs.Discharging.{lookup-there, missing-number, delivery-split, delivery-number, delivery-dealing, delivered}
 use Rattle.calls.specs.declared.Core.{Core}
 use Rattle.calls.specs.declared.Followed.{Followed}
 use Rattle.calls.specs.View.{Numbers, numbers, keptOf, bookOf, Held, CalledOn, Discharging, Discharged}
 use Rattle.calls.specs.Cores.{dischargedCore}
-use Rattle.calls.proofs.Returns.{refused-on, taken-called}
+use Rattle.calls.proofs.Returns.{refused-on, taken-on}
 use Rattle.calls.proofs.Walking.{row-is, discharging}
 
 module _ (b : Core) (a : Numbers) (h : Held b a) (d : Delivery) where
   pub delivery-missing : (number : ℕ) (sheet : List ℕ) → number ≡ first (lookupReasons 1024 (b .positions) (d .position)) → number ≢ 0 → length sheet ≡ 4096
       → CalledOn b a (call (event.Delivery d) 1024) manner.Delivered sheet b a sheet (outcome.Refused number) 0
   delivery-missing number sheet e some long =
-      refused-on b a (call (event.Delivery d) 1024) manner.Delivered sheet number h (missing-number 1024 _ _ _ _ (delivery-split (keptOf b a) (h .valid) d 1024) number e some) some long
+      refused-on b a (call (event.Delivery d) 1024) manner.Delivered sheet number h (missing-number (lookupReasons 1024 _ _) _ _ (delivery-split (keptOf b a) (h .valid) d 1024) number e some) some long
 
   module _ (p : Position) (reserved number : ℕ) (there : first (lookupReasons 1024 (b .positions) (d .position)) ≡ 0) (row : p ≡ rowOf (a .rows) (d .position))
       (units : reserved ≡ unconfirmed (d .position) (table.awards (keptOf b a .awards))) (is : number ≡ first (deliveryReasons p (b .day .0) (b .auction .position) (p .unsettled - reserved) d)) where
@@ -52,11 +51,5 @@ module _ (b : Core) (a : Numbers) (h : Held b a) (d : Delivery) where
       delivery-done zs cs sheet left f made w =
           let e = number-is ∙ z in
           let r = delivered (keptOf b a) (h .valid) d _ (w .dealt) in
-          record {
-            called =
-                taken-called b a (call (event.Delivery d) 1024) (dischargedCore b f (b .ledger)) (numbers zs (a .trades) (a .awards) cs) (d .quantity) (take made (piecesOf manner.Delivered left)) h e (r .quantity) (r .pieces) (r .book) (r .fits)
-                (record { rows = w .rows-length; trades = h .lent .trades; awards = h .lent .awards; follows = w .follows });
-            places = w .sheet-length;
-            few = w .dealt .pieces-fit .held;
-            kept = λ n. absurd (n e);
-          }
+          taken-on b a (call (event.Delivery d) 1024) manner.Delivered sheet (dischargedCore b f (b .ledger)) (numbers zs (a .trades) (a .awards) cs) left (d .quantity) made h e (r .quantity) (r .pieces) (r .book) (r .fits)
+          (record { rows = w .rows-length; trades = h .lent .trades; awards = h .lent .awards; follows = w .follows }) (w .sheet-length) (w .dealt .pieces-fit .held)

@@ -3,6 +3,7 @@ pub mod Entered
 pub mod Started
 pub mod Walking
 pub mod Delivering
+pub mod SettingOff
 pub mod Confirming
 pub mod Settling
 pub mod Auctioning

@@ -1,10 +1,10 @@
 -- The two ways in which a call in place returns: it is refused and nothing is changed, or it is done as the plain book does it.
-use Prim.Native.Nat.{ℕ, zero, suc}
+use Prim.Native.Nat.{ℕ, zero, suc, _≤_}
 use mathlib.Core.Path.{_≡_, refl, ap, sym, _∙_}
 use mathlib.Core.Logic.{_≢_}
 use mathlib.Core.List.{List, []}
 use native.Mathlib.Omega.{arith}
-use lib.ListN.{length}
+use lib.ListN.{length, take}
 use Rattle.laws.specs.Refusals.{accepted-zero, accepted-not}
 use Rattle.plain.specs.declared.Piece.{Piece}
 use Rattle.plain.specs.declared.Manner.{Manner}
@@ -12,6 +12,7 @@ use Rattle.plain.specs.declared.Outcome.the-variants as outcome
 use Rattle.plain.specs.Calls.{Call, handsOut, amount, done}
 use Rattle.plain.specs.Refusals.{refusal}
 use Rattle.plain.specs.Histories.{eventOf, next, pieces, quantity}
+use Rattle.pieces.specs.Sheet.{piecesOf}
 use Rattle.kept.specs.View.{view, Fits, answer}
 use Rattle.kept.proofs.Returns.{valid-done}
 use Rattle.calls.specs.declared.Core.{Core}
@@ -41,7 +42,7 @@ refused-called b a c number h e some =
     }
 
 -- an accepted call
-pub taken-called : (b : Core) (a : Numbers) (c : Call) (after : Core) (z : Numbers) (q : ℕ) (xs : List Piece) → Held b a → refusal (bookOf b a) c ≡ 0
+taken-called : (b : Core) (a : Numbers) (c : Call) (after : Core) (z : Numbers) (q : ℕ) (xs : List Piece) → Held b a → refusal (bookOf b a) c ≡ 0
     → q ≡ amount (bookOf b a) (eventOf c) → xs ≡ handsOut (bookOf b a) (eventOf c) → view (keptOf after z) ≡ done (bookOf b a) (eventOf c) → Fits (keptOf after z) → Lent after z
     → Called b a c after z (outcome.Done q) xs
 unfolding next pieces quantity
@@ -73,3 +74,15 @@ pub taken : (b : Core) (a : Numbers) (c : Call) (after : Core) (z : Numbers) (q 
     → q ≡ amount (bookOf b a) (eventOf c) → [] ≡ handsOut (bookOf b a) (eventOf c) → view (keptOf after z) ≡ done (bookOf b a) (eventOf c) → Fits (keptOf after z) → Lent after z
     → CalledBare b a c after z (outcome.Done q) 0
 taken b a c after z q h e much given same fits lent = record { called = taken-called b a c after z q [] h e much given same fits lent; none = refl }
+
+-- and one on a sheet, with so many pieces
+pub taken-on : (b : Core) (a : Numbers) (c : Call) (m : Manner) (sheet : List ℕ) (after : Core) (z : Numbers) (left : List ℕ) (q made : ℕ) → Held b a → refusal (bookOf b a) c ≡ 0
+    → q ≡ amount (bookOf b a) (eventOf c) → take made (piecesOf m left) ≡ handsOut (bookOf b a) (eventOf c) → view (keptOf after z) ≡ done (bookOf b a) (eventOf c) → Fits (keptOf after z) → Lent after z
+    → length left ≡ 4096 → made ≤ 1024 → CalledOn b a c m sheet after z left (outcome.Done q) made
+taken-on b a c m sheet after z left q made h e much given same fits lent long few =
+    record {
+      called = taken-called b a c after z q (take made (piecesOf m left)) h e much given same fits lent;
+      places = long;
+      few = few;
+      kept = λ n. absurd (n e);
+    }

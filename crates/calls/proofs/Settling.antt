@@ -45,7 +45,7 @@ use Rattle.calls.specs.declared.Core.{Core}
 use Rattle.calls.specs.declared.Followed.{Followed}
 use Rattle.calls.specs.View.{Numbers, numbers, keptOf, bookOf, heldIn, Held, Taken, CashTerms, CalledOn, Discharging, Discharged}
 use Rattle.calls.specs.Cores.{dischargedCore}
-use Rattle.calls.proofs.Returns.{refused-on, taken-called}
+use Rattle.calls.proofs.Returns.{refused-on, taken-on}
 use Rattle.calls.proofs.Walking.{row-is, discharging}
 
 -- a discharge leaves members and references as they are
@@ -86,7 +86,7 @@ module _ (b : Core) (a : Numbers) (h : Held b a) (c : Cash) where
   pub cash-missing : (number : ℕ) (sheet : List ℕ) → number ≡ first (lookupReasons 1024 (b .positions) (c .position)) → number ≢ 0 → length sheet ≡ 4096
       → CalledOn b a (call (event.Cash c) 1024) manner.Cash sheet b a sheet (outcome.Refused number) 0
   cash-missing number sheet e some long =
-      refused-on b a (call (event.Cash c) 1024) manner.Cash sheet number h (missing-number 1024 _ _ _ _ (cash-split (keptOf b a) (h .valid) c 1024) number e some) some long
+      refused-on b a (call (event.Cash c) 1024) manner.Cash sheet number h (missing-number (lookupReasons 1024 _ _) _ _ (cash-split (keptOf b a) (h .valid) c 1024) number e some) some long
 
   module _ (p : Position) (class : ℕ) (latest : LatestPrice) (today : Step) (number : ℕ) (there : first (lookupReasons 1024 (b .positions) (c .position)) ≡ 0) (own : p ≡ rowOf (a .rows) (c .position))
       (classed : class ≡ nth 0 (b .opening .register .classes) (p .security)) (looked : latest ≡ lookedUp (nth noPrice (table.prices (b .prices)) (p .security)))
@@ -204,11 +204,5 @@ module _ (b : Core) (a : Numbers) (c : Cash) (t : Taken b a (call (event.Cash c)
     unfolding table.pieces
     cash-done sheet left l g posts long =
         let r = settled (keptOf b a) v c able (p .unsettled) class latest by _ (w .dealt) price price-same (pieceTable manner.Cash left made) g l (posts ∙ ap (posted (b .ledger)) (charges-are (pieceTable manner.Cash left made) g)) in
-        record {
-          called =
-              taken-called b a (call (event.Cash c) 1024) (dischargedCore b f l) (numbers zs (a .trades) (a .awards) cs) (p .unsettled) (take made (piecesOf manner.Cash left)) (t .held) (t .accepted) (r .quantity) (r .pieces) (r .book) (r .fits)
-              (record { rows = w .rows-length; trades = t .held .lent .trades; awards = t .held .lent .awards; follows = w .follows });
-          places = long;
-          few = w .dealt .pieces-fit .held;
-          kept = λ n. absurd (n (t .accepted));
-        }
+        taken-on b a (call (event.Cash c) 1024) manner.Cash sheet (dischargedCore b f l) (numbers zs (a .trades) (a .awards) cs) left (p .unsettled) made (t .held) (t .accepted) (r .quantity) (r .pieces) (r .book) (r .fits)
+        (record { rows = w .rows-length; trades = t .held .lent .trades; awards = t .held .lent .awards; follows = w .follows }) long (w .dealt .pieces-fit .held)

@@ -35,6 +35,11 @@ module _ (count : ℕ) (entry exit : List Position) (xs : List Piece) (places : 
   unfolding ClosedBefore
   closed-lowered s n few c = λ j l. rw (lowered-at j (omega (arith, l, few))) (closed-at s (suc j) (getD entry j noPosition) (c j l))
 
+  -- the places stay, where no walk was made
+  pub started-kept : (starts : List ℕ) → Started count starts entry → Started count starts exit
+  started-kept starts st =
+      record { places = st .places; within = st .within; closed = λ k l. closed-lowered k (nth 0 starts k) (st .within k) (st .closed k l) }
+
   module _ (starts : List ℕ) (st : Started count starts entry) (s end : ℕ) (above : 1 ≤ s) (below : s ≤ 32) (few : end ≤ count) (closed : ClosedBefore s exit end) where
     placed : Within 1 (length starts) s
     placed = record { above = above; below = omega (arith, st .places) }

@@ -33,6 +33,7 @@ any-sheet b (event.Award a) m n h = refl
 any-sheet b (event.Confirm c) m n h = absurd (true≢false h)
 any-sheet b (event.Cash c) m n h = absurd (true≢false h)
 any-sheet b event.Close m n h = refl
+any-sheet b (event.PairOff x) m n h = absurd (true≢false h)
 
 -- a call that is refused alike with sheets of two lengths returns alike
 module _ (b : Kept) (e : Event) (m n : ℕ) (same : refusal (view b) (call e m) ≡ refusal (view b) (call e n)) where

@@ -2,10 +2,12 @@
 use Prim.Native.Nat.{ℕ, _-_, _≤_}
 use native.Mathlib.Omega.{arith}
 use mathlib.Core.Path.{_≡_, refl, _∙_, subst}
+use mathlib.Core.Bool.{true}
 use mathlib.Core.Logic.{_≢_}
 use mathlib.Core.List.{List}
 use lib.ListN.{length, set}
 use Rattle.plain.specs.declared.Position.{Position}
+use Rattle.plain.specs.declared.Piece.{Piece}
 use Rattle.plain.specs.declared.Manner.{Manner}
 use Rattle.plain.specs.Book.{noPosition, nth}
 use Rattle.plain.specs.Calls.{dealt}
@@ -18,14 +20,14 @@ use Rattle.tables.specs.Tables as table
 use Rattle.tables.specs.Lent.{positionTable, rowOf}
 use Rattle.failing.specs.Counts.{Counted, UnitsOf, Lowered}
 use Rattle.failing.proofs.Discharging.{lowering-lowered, late-before-lowered}
-use Rattle.positions.specs.Dealing.{Dealing, dealtOut, Walked}
+use Rattle.positions.specs.Dealing.{Dealing, dealtOut, ClosedBefore}
 use Rattle.kept.specs.View.{view}
 use Rattle.kept.proofs.Discharging.{positions-many, cash-security}
 use Rattle.kept.proofs.Auctions.{position-is, members-fit}
 use Rattle.calls.specs.declared.Core.{Core}
 use Rattle.calls.specs.declared.Followed.{Followed}
-use Rattle.calls.specs.View.{Numbers, keptOf, bookOf, heldIn, Follows, Held, Discharging}
-use Rattle.calls.proofs.Started.{started-after}
+use Rattle.calls.specs.View.{Numbers, keptOf, bookOf, heldIn, Started, Follows, Held, Falling, Discharging}
+use Rattle.calls.proofs.Started.{started-kept, started-after}
 use Rattle.plain.proofs.Numbered.{nth-all}
 
 -- What is held, of a position by its number
@@ -45,6 +47,24 @@ module _ (b : Core) (a : Numbers) (h : Held b a) where
         (rw (positions-many (positionTable (a .rows) (b .positions)) (h .valid .fits .positions)) w)
         (members-fit (keptOf b a) (h .valid)))
 
+  -- what a discharge by these pieces asks
+  pub falling : (n q : ℕ) (m : Manner) (xs : List Piece) → Deals (bookOf b a) m n q xs → (p : Position) → q ≢ 0 → p ≡ rowOf (a .rows) n
+      → Falling (b .day .0) (a .rows) (b .positions) (a .counts) (b .followed) n p q m xs
+  unfolding view
+  falling n q m xs f p some e =
+      let held = f .dealable .held in
+      let inside : Within 1 (b .positions) n =
+      record { above = held .above; below = omega (arith, held .below, positions-many (positionTable (a .rows) (b .positions)) (h .valid .fits .positions)) } in
+      record {
+        fits = h .valid .fits .positions;
+        deals = (bookOf b a, refl, f);
+        own = e;
+        security = registered n p inside e;
+        member = member-fits n p inside e;
+        some = omega (arith, some);
+        follows = h .lent .follows;
+      }
+
   -- what dealing out asks
   module _ (n q : ℕ) (m : Manner) (d : Dealing (positionTable (a .rows) (b .positions)) (b .day .0) n q) where
     dealable : Dealable (bookOf b a) n q
@@ -63,58 +83,54 @@ module _ (b : Core) (a : Numbers) (h : Held b a) where
 
     pub discharging : (p : Position) (sheet : List ℕ) → q ≢ 0 → p ≡ rowOf (a .rows) n → length sheet ≡ 4096
         → Discharging (b .day .0) (a .rows) (b .positions) (a .counts) sheet (b .followed) n p q m
-    unfolding view
     discharging p sheet some e long =
-        record {
-          dealing = d;
-          deals = (bookOf b a, refl, dealt-of);
-          own = e;
-          security = registered n p (d .held) e;
-          member = member-fits n p (d .held) e;
-          some = omega (arith, some);
-          follows = h .lent .follows;
-          rows-length = h .lent .rows;
-          sheet-length = long;
-        }
+        record { dealing = d; falling = falling n q m _ dealt-of p some e; rows-length = h .lent .rows; sheet-length = long }
 
 -- What is left
 
-module _ (day : ℕ) (rows : List ℕ) (count : ℕ) (counts sheet : List ℕ) (f : Followed) (n : ℕ) (p : Position) (q : ℕ) (m : Manner)
-    (asks : Discharging day rows count counts sheet f n p q m) where
+module _ (day : ℕ) (rows : List ℕ) (count : ℕ) (counts : List ℕ) (f : Followed) (n : ℕ) (p : Position) (q : ℕ) (m : Manner) (xs : List Piece)
+    (asks : Falling day rows count counts f n p q m xs) where
   abbrev held : List Position
   held = heldIn rows count
 
-  many : length held ≡ count
-  many = positions-many (positionTable rows count) (asks .dealing .fits)
+  there : Within 1 (length held) n
+  there = subst (λ (ps : List Position). Within 1 (length ps) n) (asks .deals .1) (asks .deals .2 .dealable .held)
 
   own-is : p ≡ nth noPosition held n
-  own-is = asks .own ∙ position-is (positionTable rows count) n (asks .dealing .held .above) (asks .dealing .held .below)
+  own-is =
+      asks .own
+      ∙ position-is (positionTable rows count) n (there .above) (omega (arith, there .below, positions-many (positionTable rows count) (asks .fits)))
 
   -- the units are those of the short
   pub units-of : UnitsOf held n p q
   units-of =
+      let d = asks .deals .2 .dealable in
       record {
-        held = record { above = asks .dealing .held .above; below = omega (arith, asks .dealing .held .below, many) };
+        held = there;
         is = own-is;
-        short = rw own-is (asks .dealing .is-short);
+        short = rw own-is (subst (λ (ps : List Position). nth noPosition ps n .short ≡ true) (asks .deals .1) (d .short));
         above = asks .some;
-        enough = rw own-is (asks .dealing .enough);
+        enough = rw own-is (subst (λ (ps : List Position). q ≤ nth noPosition ps n .unsettled) (asks .deals .1) (d .enough));
       }
 
-  module _ (zs left : List ℕ) (made end : ℕ) (w : Walked rows count day n q m zs left made end) where
+  module _ (zs : List ℕ) (low : heldIn zs count ≡ lowering xs held) where
     pub lowered-late : Lowered day held (heldIn zs count) n q
     lowered-late =
-        rw (w .dealt .positions)
-        (subst (λ (ps : List Position). Lowered day ps (lowering (dealtOut (positionTable rows count) day n q m) ps) n q) (asks .deals .1) (lowering-lowered (asks .deals .2) day))
+        rw low
+        (subst (λ (ps : List Position). Lowered day ps (lowering xs ps) n q) (asks .deals .1) (lowering-lowered (asks .deals .2) day))
 
-    pub follows-after : (words cs : List ℕ) (g : Followed) → Counted day (heldIn zs count) words cs → g .starts ≡ set (f .starts) (p .security - 1) end → g .failing .words ≡ words → g .late ≡ f .late → Follows day zs count cs g
+    pub follows-after : (cs : List ℕ) (g : Followed) → Started count (g .starts) (rowsOf zs) → Counted day (heldIn zs count) (g .failing .words) cs → g .late ≡ f .late → Follows day zs count cs g
+    follows-after cs g started counted late =
+        record { started = started; failing = counted; late = rw (late, low) (late-before-lowered xs day held (f .late) (asks .follows .late)) }
+
+    -- where no walk was made, walks start where they did
+    pub starts-kept : Started count (f .starts) (rowsOf zs)
     unfolding table.positions
-    follows-after words cs g counted starts same late =
-        let fits = asks .dealing .fits in
-        record {
-          started =
-              rw starts
-              (started-after count (rowsOf rows) (rowsOf zs) _ (omega (arith, fits .places, fits .held)) (w .dealt .positions) (f .starts) (asks .follows .started) (p .security) end (asks .security .above) (asks .security .below) (w .within) (rw (asks .own) (w .closed)));
-          failing = rw same counted;
-          late = rw (late, w .dealt .positions) (late-before-lowered _ day held (f .late) (asks .follows .late));
-        }
+    starts-kept =
+        started-kept count (rowsOf rows) (rowsOf zs) xs (omega (arith, asks .fits .places, asks .fits .held)) low (f .starts) (asks .follows .started)
+
+    -- and the next one of the security starts where one was left
+    pub starts-moved : (end : ℕ) → end ≤ count → ClosedBefore (rowOf rows n .security) (rowsOf zs) end → Started count (set (f .starts) (p .security - 1) end) (rowsOf zs)
+    unfolding table.positions
+    starts-moved end within closed =
+        started-after count (rowsOf rows) (rowsOf zs) xs (omega (arith, asks .fits .places, asks .fits .held)) low (f .starts) (asks .follows .started) (p .security) end (asks .security .above) (asks .security .below) within (rw (asks .own) closed)

@@ -5,7 +5,7 @@ use Rattle.laws.specs.Limits.{PLACES}
 use Rattle.events.specs.declared.Event.{Event}
 use Rattle.events.specs.declared.Event.the-variants as event
 use Rattle.plain.specs.declared.Manner.{Manner}
-use Rattle.plain.specs.declared.Manner.the-variants.{Delivered, BoughtIn, Cash}
+use Rattle.plain.specs.declared.Manner.the-variants.{Delivered, BoughtIn, Cash, Paired}
 use Rattle.plain.specs.declared.Outcome.{Outcome}
 use Rattle.plain.specs.Calls.{call}
 use Rattle.calls.specs.declared.Core.{Core}
@@ -22,6 +22,7 @@ mannerOf (event.Award a) = Delivered
 mannerOf (event.Confirm c) = BoughtIn
 mannerOf (event.Cash c) = Cash
 mannerOf event.Close = Delivered
+mannerOf (event.PairOff x) = Paired
 
 -- what the event makes of the core, the numbers and the sheet, and what it answers: its call on a sheet of 1,024 places
 abbrev pub Stepped : Core → Numbers → Event → List ℕ → Core → Numbers → List ℕ → Outcome → ℕ → Type 0

@@ -2,15 +2,17 @@
 use Prim.Native.Nat.{ℕ, _≤_, _<_}
 use mathlib.Core.Path.{_≡_}
 use mathlib.Core.Logic.{_≢_}
-use mathlib.Core.List.{List, []}
+use mathlib.Core.List.{List, [], _∷_}
 use lib.ListN.{length, take, replicate}
 use Rattle.laws.specs.Limits.{MEMBERS, PLACES, SECURITIES}
+use Rattle.events.specs.declared.PairOff.{PairOff}
 use Rattle.plain.specs.declared.Piece.{Piece}
 use Rattle.plain.specs.declared.Position.{Position}
 use Rattle.plain.specs.declared.Manner.{Manner}
+use Rattle.plain.specs.declared.Manner.the-variants.{Paired}
 use Rattle.plain.specs.declared.Outcome.{Outcome}
 use Rattle.plain.specs.Book as plain
-use Rattle.plain.specs.Calls.{Call}
+use Rattle.plain.specs.Calls.{Call, pairedPiece}
 use Rattle.plain.specs.Refusals.{refusal}
 use Rattle.plain.specs.Histories.{next, pieces, quantity}
 use Rattle.laws.specs.Asked.{Within}
@@ -20,7 +22,8 @@ use Rattle.pieces.specs.Sheet.{piecesOf}
 use Rattle.tables.specs.Tables as table
 use Rattle.tables.specs.Lent.{positionTable, tradeTable, awardTable, pieceTable, rowOf}
 use Rattle.failing.specs.Counts.{Counted, LateBefore}
-use Rattle.positions.specs.Dealing.{Dealing, dealtOut, DealtOut, ClosedBefore}
+use Rattle.positions.specs.Dealing.{Dealing, dealtOut, HandedOut, ClosedBefore}
+use Rattle.positions.specs.Pairing.{SettingOff}
 use Rattle.kept.specs.View.{Kept, Valid, view, answer}
 use Rattle.calls.specs.declared.Core.{Core}
 use Rattle.calls.specs.declared.Followed.{Followed}
@@ -72,7 +75,7 @@ pub record Follows (day : ℕ) (rows : List ℕ) (count : ℕ) (counts : List �
 
 -- the numbers have their places, and what the core follows is true of them
 pub record Lent (b : Core) (a : Numbers) : Type 0 where
-  pub rows : length (a .rows) ≡ 11264
+  pub rows : length (a .rows) ≡ 12288
   pub trades : length (a .trades) ≡ 3584
   pub awards : length (a .awards) ≡ 1280
   pub follows : Follows (b .day .0) (a .rows) (b .positions) (a .counts) (b .followed)
@@ -109,24 +112,41 @@ pub record CalledOn (b : Core) (a : Numbers) (c : Call) (m : Manner) (sheet : Li
   pub few : n ≤ PLACES
   pub kept : refusal (bookOf b a) c ≢ 0 → left ≡ sheet
 
--- what dealing out q units of the short p, of number n, asks of the lent tables, the sheet and what is followed
-pub record Discharging (day : ℕ) (rows : List ℕ) (count : ℕ) (counts sheet : List ℕ) (f : Followed) (n : ℕ) (p : Position) (q : ℕ) (m : Manner) : Type 0 where
-  pub dealing : Dealing (positionTable rows count) day n q
-  pub deals : ((b : plain.Book) × (b .positions ≡ heldIn rows count) × Deals b m n q (dealtOut (positionTable rows count) day n q m))
+-- what a discharge of q units of the short p, of number n, by these pieces asks of the lent positions and of what is followed of them
+pub record Falling (day : ℕ) (rows : List ℕ) (count : ℕ) (counts : List ℕ) (f : Followed) (n : ℕ) (p : Position) (q : ℕ) (m : Manner) (xs : List Piece) : Type 0 where
+  pub fits : table.PositionsFit (positionTable rows count)
+  pub deals : ((b : plain.Book) × (b .positions ≡ heldIn rows count) × Deals b m n q xs)
   pub own : p ≡ rowOf rows n
   pub security : Within 1 SECURITIES (p .security)
   pub member : p .member ≤ MEMBERS
   pub some : 0 < q
   pub follows : Follows day rows count counts f
-  pub rows-length : length rows ≡ 11264
+
+-- and what it leaves of them, with so many pieces on the sheet
+pub record DischargedBy (day : ℕ) (rows : List ℕ) (count : ℕ) (xs : List Piece) (m : Manner) (after counts sheet : List ℕ) (f : Followed) (made : ℕ) : Type 0 where
+  pub dealt : HandedOut (positionTable rows count) xs (record { positions = positionTable after count; pieces = pieceTable m sheet made })
+  pub follows : Follows day after count counts f
+  pub rows-length : length after ≡ 12288
   pub sheet-length : length sheet ≡ 4096
 
--- and what it leaves of them, with so many pieces
-pub record Discharged (day : ℕ) (rows : List ℕ) (count n q : ℕ) (m : Manner) (after counts sheet : List ℕ) (f : Followed) (made : ℕ) : Type 0 where
-  pub dealt : DealtOut (positionTable rows count) day n q m (record { positions = positionTable after count; pieces = pieceTable m sheet made })
-  pub follows : Follows day after count counts f
-  pub rows-length : length after ≡ 11264
+-- the same of a discharge that is dealt out
+pub record Discharging (day : ℕ) (rows : List ℕ) (count : ℕ) (counts sheet : List ℕ) (f : Followed) (n : ℕ) (p : Position) (q : ℕ) (m : Manner) : Type 0 where
+  pub dealing : Dealing (positionTable rows count) day n q
+  pub falling : Falling day rows count counts f n p q m (dealtOut (positionTable rows count) day n q m)
+  pub rows-length : length rows ≡ 12288
   pub sheet-length : length sheet ≡ 4096
+
+abbrev pub Discharged : ℕ → List ℕ → ℕ → ℕ → ℕ → Manner → List ℕ → List ℕ → List ℕ → Followed → ℕ → Type 0
+Discharged day rows count n q m after counts sheet f made =
+    DischargedBy day rows count (dealtOut (positionTable rows count) day n q m) m after counts sheet f made
+
+-- and of a pair-off, whose one piece is given
+pub record PairingOff (day : ℕ) (rows : List ℕ) (count : ℕ) (counts sheet : List ℕ) (f : Followed) (p : Position) (x : PairOff) : Type 0 where
+  pub setting : SettingOff rows sheet (x .short) (x .long) (x .quantity)
+  pub falling : Falling day rows count counts f (x .short) p (x .quantity) Paired (pairedPiece x ∷ [])
+
+abbrev pub PairedOff : ℕ → List ℕ → ℕ → PairOff → List ℕ → List ℕ → List ℕ → Followed → Type 0
+PairedOff day rows count x after counts sheet f = DischargedBy day rows count (pairedPiece x ∷ []) Paired after counts sheet f 1
 
 -- a call that nothing turns down
 pub record Taken (b : Core) (a : Numbers) (c : Call) : Type 0 where
@@ -141,7 +161,7 @@ pub record CashTerms (b : Core) (rows : List ℕ) (n : ℕ) (p : Position) (clas
 
 -- the numbers that are lent with a new book: no short is late, and the tables have their places
 pub record Blank (a : Numbers) : Type 0 where
-  pub rows : length (a .rows) ≡ 11264
+  pub rows : length (a .rows) ≡ 12288
   pub trades : length (a .trades) ≡ 3584
   pub awards : length (a .awards) ≡ 1280
   pub counts : a .counts ≡ replicate 2048 0

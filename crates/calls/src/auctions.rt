@@ -38,7 +38,7 @@ fn open_auction(core: Core, position: u16, ceiling: u64) -> Core
     after
 }
 
-pub fn attempt(core: Core, rows: &[u32; 11264], a: Attempt) -> Answered
+pub fn attempt(core: Core, rows: &[u32; 12288], a: Attempt) -> Answered
     requires { ⌜ ((trades awards counts : List ℕ) × Held core (numbers (now rows) trades awards counts)) ⌝ }
     ensures { λ r. ⌜ ((trades awards counts : List ℕ) → Held core (numbers (now (rows .entry)) trades awards counts) → CalledBare core (numbers (now (rows .entry)) trades awards counts) (call (event.Attempt a) 0) (r .core) (numbers (now (rows .entry)) trades awards counts) (r .outcome) (r .pieces)) ⌝ }
 {
@@ -69,7 +69,7 @@ pub fn attempt(core: Core, rows: &[u32; 11264], a: Attempt) -> Answered
 }
 
 // The offerer is tested against the word of the security that is auctioned.
-pub fn offer(core: Core, rows: &[u32; 11264], o: Offer) -> Answered
+pub fn offer(core: Core, rows: &[u32; 12288], o: Offer) -> Answered
     requires { ⌜ ((trades awards counts : List ℕ) × Held core (numbers (now rows) trades awards counts)) ⌝ }
     ensures { λ r. ⌜ ((trades awards counts : List ℕ) → Held core (numbers (now (rows .entry)) trades awards counts) → CalledBare core (numbers (now (rows .entry)) trades awards counts) (call (event.Offer o) 0) (r .core) (numbers (now (rows .entry)) trades awards counts) (r .outcome) (r .pieces)) ⌝ }
 {
@@ -102,7 +102,7 @@ pub fn offer(core: Core, rows: &[u32; 11264], o: Offer) -> Answered
 // The auction ends in awards. Its offers' cells stay as they are, past the count.
 pub fn award(
     core: Core,
-    rows: &[u32; 11264],
+    rows: &[u32; 12288],
     awards: &mut [u32; 1280],
     a: events::Award,
 ) -> Answered

@@ -19,7 +19,7 @@ use laws::BusinessDay;
 use plain::Ledger;
 
 // The accounts with the charges of a close, which go by the positions and awards as they are.
-fn fined(core: Core, rows: &[u32; 11264], awards: &[u32; 1280]) -> Ledger
+fn fined(core: Core, rows: &[u32; 12288], awards: &[u32; 1280]) -> Ledger
     requires { ⌜ ((trades counts : List ℕ) × Taken core (numbers (now rows) trades (now awards) counts) (call event.Close 0)) ⌝ }
     ensures { λ r. ⌜ r ≡ posted (core .ledger) (closeChargesOf (awardTable (now (awards .entry)) (core .awards)) (positionTable (now (rows .entry)) (core .positions)) (core .prices) (core .opening .register) (core .day)) ⌝ }
 {
@@ -60,7 +60,7 @@ fn next_day(core: Core, ledger: Ledger, raised: Raised, positions: usize) -> Cor
 // The day ends: its charges are posted, the shorts that were due on it become late, and its trades are netted.
 pub fn close(
     core: Core,
-    rows: &mut [u32; 11264],
+    rows: &mut [u32; 12288],
     trades: &[u32; 3584],
     awards: &[u32; 1280],
     counts: &mut [u32; 2048],

@@ -1,4 +1,4 @@
-// The three ways in which a short is discharged: delivered, bought in when an award is confirmed, and settled in cash.
+// The three ways in which a discharge of a short is dealt out: delivered, bought in when an award is confirmed, and settled in cash.
 ghost use Prim.Native.Nat.{ℕ, _-_};
 ghost use mathlib.Core.Path.{_≡_};
 ghost use mathlib.Core.List.{List};
@@ -47,7 +47,7 @@ fn start_of(followed: Followed, security: u16) -> usize
 // A discharge of the short `p`, given as its row has it, dealt out. The walk starts where the first open long of the security may be, and the next one
 // starts where it ended.
 fn discharge(
-    rows: &mut [u32; 11264],
+    rows: &mut [u32; 12288],
     counts: &mut [u32; 2048],
     sheet: &mut [u64; 4096],
     held: usize,
@@ -76,7 +76,7 @@ fn discharge(
 
 pub fn delivery(
     core: Core,
-    rows: &mut [u32; 11264],
+    rows: &mut [u32; 12288],
     awards: &[u32; 1280],
     counts: &mut [u32; 2048],
     sheet: &mut [u64; 4096],
@@ -127,7 +127,7 @@ fn charged(core: Core, followed: Followed, ledger: Ledger) -> Core
 // The award's units are bought in, charged to the short's member, and the award is marked.
 fn buy_in(
     core: Core,
-    rows: &mut [u32; 11264],
+    rows: &mut [u32; 12288],
     awards: &mut [u32; 1280],
     counts: &mut [u32; 2048],
     sheet: &mut [u64; 4096],
@@ -165,7 +165,7 @@ fn buy_in(
 
 pub fn confirm(
     core: Core,
-    rows: &mut [u32; 11264],
+    rows: &mut [u32; 12288],
     awards: &mut [u32; 1280],
     counts: &mut [u32; 2048],
     sheet: &mut [u64; 4096],
@@ -190,7 +190,7 @@ pub fn confirm(
 // All that is open of the short `p` is settled: dealt out, then priced and paid for on the sheet, with the fee.
 fn settle(
     core: Core,
-    rows: &mut [u32; 11264],
+    rows: &mut [u32; 12288],
     counts: &mut [u32; 2048],
     sheet: &mut [u64; 4096],
     c: Cash,
@@ -222,7 +222,7 @@ fn settle(
 
 pub fn cash(
     core: Core,
-    rows: &mut [u32; 11264],
+    rows: &mut [u32; 12288],
     counts: &mut [u32; 2048],
     sheet: &mut [u64; 4096],
     c: Cash,

@@ -1,10 +1,11 @@
-// The nine calls in place. The core of a book goes in and comes back by value; its tables of positions, trades and awards, and the counts of
+// The ten calls in place. The core of a book goes in and comes back by value; its tables of positions, trades and awards, and the counts of
 // late open shorts, are numbers that a caller lends, and are changed where they stand. A call takes the tables that it needs; of the others
 // its contract says that they may be any with which the core is held.
 mod auctions;
 mod closing;
 mod discharge;
 mod opening;
+mod pairing;
 mod reading;
 mod trading;
 
@@ -21,6 +22,7 @@ pub use opening::blank_trades;
 pub use opening::new_core;
 pub use opening::no_counts;
 pub use opening::open_core;
+pub use pairing::pair_off;
 pub use reading::accounts;
 pub use reading::award_at;
 pub use reading::balance;
@@ -175,7 +177,7 @@ fn price_of(latest: LatestPrice) -> u32
 // One event, by the call of its kind, on all tables and a sheet.
 pub fn step(
     core: Core,
-    rows: &mut [u32; 11264],
+    rows: &mut [u32; 12288],
     trades: &mut [u32; 3584],
     awards: &mut [u32; 1280],
     counts: &mut [u32; 2048],
@@ -195,5 +197,6 @@ pub fn step(
         Event::Confirm(c) => confirm(core, rows, awards, counts, sheet, c),
         Event::Cash(c) => cash(core, rows, counts, sheet, c),
         Event::Close => close(core, rows, trades, awards, counts),
+        Event::PairOff(x) => pair_off(core, rows, awards, counts, sheet, x),
     }
 }

@@ -105,10 +105,10 @@ pub fn new_core(opening: Opening) -> Core
 }
 
 // The tables that are lent with a new book. Only the counts have to be 0.
-pub fn blank_rows() -> [u32; 11264]
-    ensures { λ r. ⌜ (r ≡ replicate 11264 0) × (length r ≡ 11264) ⌝ }
+pub fn blank_rows() -> [u32; 12288]
+    ensures { λ r. ⌜ (r ≡ replicate 12288 0) × (length r ≡ 12288) ⌝ }
 {
-    [0u32; 11264]
+    [0u32; 12288]
 }
 
 pub fn blank_trades() -> [u32; 3584]

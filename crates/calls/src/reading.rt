@@ -45,7 +45,7 @@ pub fn accounts(core: Core) -> Ledger
     core.ledger
 }
 
-pub fn position(core: Core, rows: &[u32; 11264], number: u16) -> PositionAnswer
+pub fn position(core: Core, rows: &[u32; 12288], number: u16) -> PositionAnswer
     requires { ⌜ ((trades awards counts : List ℕ) × Held core (numbers (now rows) trades awards counts)) ⌝ }
     ensures { λ r. ⌜ ((trades awards counts : List ℕ) → Held core (numbers (now (rows .entry)) trades awards counts) → r ≡ positionAnswer (bookOf core (numbers (now (rows .entry)) trades awards counts)) number) ⌝ }
 {

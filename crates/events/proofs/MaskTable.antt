@@ -21,7 +21,7 @@ use Rattle.events.proofs.Others.{Others, others}
 abbrev all : ℕ
 all = 18446744073709551615
 
--- the masks where no byte is used, and those of the kinds 1 to 9, as the code has them
+-- the masks where no byte is used, and those of the kinds 1 to 10, as the code has them
 abbrev unused : Masks
 unused = (all, all)
 
@@ -36,6 +36,7 @@ rows =
     ∷ (18446744073709486080, all)
     ∷ (18446744073709486080, all)
     ∷ (all, all)
+    ∷ (4294901760, 18446744069414584320)
     ∷ []
 
 -- the rule of the table, computed over the whole of it: a mask has 255 at each byte that the table of used bytes leaves spare, 0 at the others

@@ -12,7 +12,7 @@ use Rattle.events.specs.declared.Event.{Event}
 use Rattle.events.specs.declared.Fields.{Fields}
 use Rattle.events.specs.Layout.{BODY, KINDS, SUBJECT-AT, FIRST-AT, SECOND-AT, QUANTITY-AT, PRICE-AT, FIRST-KIND-AT, SECOND-KIND-AT, LAST-AT, marksOf, used}
 
--- "1 trade, 2 price, 3 delivery, 4 attempt, 5 offer, 6 award, 7 confirm, 8 cash, 9 close"
+-- "1 trade, 2 price, 3 delivery, 4 attempt, 5 offer, 6 award, 7 confirm, 8 cash, 9 close"; kind 10 is a pair-off (document 02, Slip 7)
 unfoldable pub kindOf : Event → ℕ
 kindOf (Event.Trade t) = 1
 kindOf (Event.Price p) = 2
@@ -23,6 +23,7 @@ kindOf (Event.Award a) = 6
 kindOf (Event.Confirm c) = 7
 kindOf (Event.Cash c) = 8
 kindOf Event.Close = 9
+kindOf (Event.PairOff p) = 10
 
 abbrev pub isKind : ℕ → Bool
 isKind kind = leb 1 kind && leb kind KINDS
@@ -39,7 +40,8 @@ fields subject one two quantity price kind-one kind-two =
       secondkind = kind-two;
     }
 
--- what an event writes into each field; a field that its kind has no use for is 0
+-- what an event writes into each field; a field that its kind has no use for is 0. "Kind 10 names the short, a quantity, and the long in the price
+-- field." (document 02, Slip 7)
 unfoldable pub fieldsOf : Event → Fields
 fieldsOf (Event.Trade t) = fields (t .security) (t .seller) (t .buyer) (t .quantity) (t .price) (t .sellerkind) (t .buyerkind)
 fieldsOf (Event.Price p) = fields (p .security) 0 0 0 (p .price) 0 0
@@ -50,6 +52,7 @@ fieldsOf (Event.Award a) = fields (a .position) 0 0 0 0 0 0
 fieldsOf (Event.Confirm c) = fields (c .award) 0 0 0 0 0 0
 fieldsOf (Event.Cash c) = fields (c .position) 0 0 0 0 0 0
 fieldsOf Event.Close = fields 0 0 0 0 0 0 0
+fieldsOf (Event.PairOff p) = fields (p .short) 0 0 (p .quantity) (p .long) 0 0
 
 -- "Body: u16 position, award or security; u8 seller or offerer; u8 buyer; u32 quantity; u32 price; four spare bytes." Of the four, a trade
 -- has its seller's kind in byte 12 and its buyer's in byte 13 (document 02, Slip 5).
@@ -76,7 +79,7 @@ unfoldable pub fieldsAt : List ℕ → ℕ → Fields
 fieldsAt bytes at =
     fields (word16At bytes (at + SUBJECT-AT)) (getD bytes (at + FIRST-AT) 0) (getD bytes (at + SECOND-AT) 0) (word32At bytes (at + QUANTITY-AT)) (word32At bytes (at + PRICE-AT)) (getD bytes (at + FIRST-KIND-AT) 0) (getD bytes (at + SECOND-KIND-AT) 0)
 
--- the event of each kind with these fields, by number from 0, which is no kind, to 9
+-- the event of each kind with these fields, by number from 0, which is no kind, to 10
 abbrev pub eventRows : Fields → List Event
 eventRows f =
     Event.Close
@@ -89,6 +92,7 @@ eventRows f =
     ∷ Event.Confirm (record { award = f .subject })
     ∷ Event.Cash (record { position = f .subject })
     ∷ Event.Close
+    ∷ Event.PairOff (record { short = f .subject; long = f .price; quantity = f .quantity })
     ∷ []
 
 -- a byte that is no kind would give `Close`; no file that passes has one

@@ -57,10 +57,22 @@ unfolding refusal
 empty = refl
 
 -- of one event the kind comes first; of two, the first event does
-no-kind : refusal (1 ∷ 0 ∷ 16 ∷ 0 ∷ 10 ∷ trade) ≡ 6
+no-kind : refusal (1 ∷ 0 ∷ 16 ∷ 0 ∷ 11 ∷ trade) ≡ 6
 unfolding trade refusal marksOf spareIn
 no-kind = refl
 
-spare-first : refusal (2 ∷ 0 ∷ 16 ∷ 0 ∷ 3 ∷ 10 ∷ trade ++ blank) ≡ 7
+spare-first : refusal (2 ∷ 0 ∷ 16 ∷ 0 ∷ 3 ∷ 11 ∷ trade ++ blank) ≡ 7
 unfolding trade blank refusal marksOf spareIn
 spare-first = refl
+
+-- a pair-off names its long by the whole price field: 65,537 is not position 1
+pairing : List ℕ
+pairing = 1 ∷ 0 ∷ 16 ∷ 0 ∷ 10 ∷ 3 ∷ 0 ∷ 0 ∷ 0 ∷ 40 ∷ 0 ∷ 0 ∷ 0 ∷ 1 ∷ 0 ∷ 1 ∷ 0 ∷ 0 ∷ 0 ∷ 0 ∷ 0 ∷ []
+
+pairing-passes : refusal pairing ≡ 0
+unfolding pairing refusal marksOf spareIn
+pairing-passes = refl
+
+pairing-read : eventsOf pairing ≡ Event.PairOff (record { short = 3; long = 65537; quantity = 40 }) ∷ []
+unfolding pairing eventsOf eventFrom fieldsAt
+pairing-read = refl

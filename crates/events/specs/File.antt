@@ -36,7 +36,7 @@ paired (kind ∷ kinds) bodies = eventRead kind (take BODY bodies) ∷ paired ki
 unfoldable pub eventsOf : List ℕ → List Event
 eventsOf file = paired (kindsIn file (count file)) (bodiesIn file (count file))
 
--- "A kind is not 1 to 9", "A spare byte is not zero"
+-- "A kind is not 1 to 9", and not 10 (document 02, Slip 7); "A spare byte is not zero"
 abbrev pub reasons : ℕ → List ℕ → List Reason
 reasons kind bytes = (not (isKind kind) ⇒ 6) ∷ (spareSet kind bytes ⇒ 7) ∷ []
 

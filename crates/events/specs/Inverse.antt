@@ -65,6 +65,7 @@ told (Event.Award a) = record { kind = refl; same = refl; used = refl }
 told (Event.Confirm c) = record { kind = refl; same = refl; used = refl }
 told (Event.Cash c) = record { kind = refl; same = refl; used = refl }
 told Event.Close = record { kind = refl; same = refl; used = refl }
+told (Event.PairOff p) = record { kind = refl; same = refl; used = refl }
 
 read-event : (e : Event) → Fits e → eventRead (kindOf e) (bodyOf e) ≡ e
 read-event e h =

@@ -24,9 +24,9 @@ BODY = 16
 abbrev pub EVENT-BYTES : ℕ
 EVENT-BYTES = 1 + BODY
 
--- "An event is one of nine kinds"
+-- "An event is one of nine kinds"; "Refusal 6 admits kind 10" (document 02, Slip 7)
 abbrev pub KINDS : ℕ
-KINDS = 9
+KINDS = 10
 
 -- "Body: u16 position, award or security; u8 seller or offerer; u8 buyer; u32 quantity; u32 price; four spare bytes."
 abbrev pub SUBJECT-AT : ℕ
@@ -68,7 +68,7 @@ HIGH-AT = 8
 abbrev pub unmarked : List ℕ
 unmarked = replicate BODY 0
 
--- the bytes of a body that a kind uses, marked 1, a row for each number from 0, which is no kind, to 9;
+-- the bytes of a body that a kind uses, marked 1, a row for each number from 0, which is no kind, to 10;
 -- "A field the kind has no use for is spare", and its bytes are marked 0. No other row would do: an event's fields stand in
 -- bytes that its kind uses (`told` of Inverse.antt), and what is read from used bytes is written again (`body-back` of Passing.antt).
 abbrev pub usedBytes : List (List ℕ)
@@ -82,10 +82,11 @@ usedBytes =
     ∷ (1 ∷ 1 ∷ 0 ∷ 0 ∷ 0 ∷ 0 ∷ 0 ∷ 0 ∷ 0 ∷ 0 ∷ 0 ∷ 0 ∷ 0 ∷ 0 ∷ 0 ∷ 0 ∷ [])
     ∷ (1 ∷ 1 ∷ 1 ∷ 0 ∷ 1 ∷ 1 ∷ 1 ∷ 1 ∷ 1 ∷ 1 ∷ 1 ∷ 1 ∷ 0 ∷ 0 ∷ 0 ∷ 0 ∷ [])
     ∷ (1 ∷ 1 ∷ 0 ∷ 0 ∷ 0 ∷ 0 ∷ 0 ∷ 0 ∷ 0 ∷ 0 ∷ 0 ∷ 0 ∷ 0 ∷ 0 ∷ 0 ∷ 0 ∷ [])
-    -- 7 confirm, 8 cash, 9 close
+    -- 7 confirm, 8 cash, 9 close, 10 pair-off
     ∷ (1 ∷ 1 ∷ 0 ∷ 0 ∷ 0 ∷ 0 ∷ 0 ∷ 0 ∷ 0 ∷ 0 ∷ 0 ∷ 0 ∷ 0 ∷ 0 ∷ 0 ∷ 0 ∷ [])
     ∷ (1 ∷ 1 ∷ 0 ∷ 0 ∷ 0 ∷ 0 ∷ 0 ∷ 0 ∷ 0 ∷ 0 ∷ 0 ∷ 0 ∷ 0 ∷ 0 ∷ 0 ∷ 0 ∷ [])
     ∷ (0 ∷ 0 ∷ 0 ∷ 0 ∷ 0 ∷ 0 ∷ 0 ∷ 0 ∷ 0 ∷ 0 ∷ 0 ∷ 0 ∷ 0 ∷ 0 ∷ 0 ∷ 0 ∷ [])
+    ∷ (1 ∷ 1 ∷ 0 ∷ 0 ∷ 1 ∷ 1 ∷ 1 ∷ 1 ∷ 1 ∷ 1 ∷ 1 ∷ 1 ∷ 0 ∷ 0 ∷ 0 ∷ 0 ∷ [])
     ∷ []
 
 -- the marks of a kind; a byte that is no kind uses none

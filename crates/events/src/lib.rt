@@ -1,5 +1,5 @@
-// Event files: the nine kinds of event, and reading and writing a file of them.
-// Document 01, 'Event files and the player'.
+// Event files: the ten kinds of event, and reading and writing a file of them.
+// Document 01, 'Event files and the player', and document 02, Slip 7.
 
 ghost use mathlib.Core.Path.{_≡_};
 ghost use mathlib.Core.List.{map};
@@ -69,7 +69,15 @@ pub struct Cash {
     pub position: u16,
 }
 
-// "An event is one of nine kinds, each with its own fields".
+// A quantity of a short is set off against a long of the same member. The long is as wide as the price field that it stands in,
+// wider than the number of a position.
+pub struct PairOff {
+    pub short: u16,
+    pub long: u32,
+    pub quantity: u32,
+}
+
+// "An event is one of nine kinds, each with its own fields", and a tenth of document 02.
 pub enum Event {
     Trade(Trade),
     Price(Price),
@@ -80,6 +88,7 @@ pub enum Event {
     Confirm(Confirm),
     Cash(Cash),
     Close,
+    PairOff(PairOff),
 }
 
 // The fields that a body has room for: the subject (a position, an award or a security), the seller or offerer, the
@@ -125,7 +134,7 @@ const EVENT_BYTES: usize = 1 + BODY;
 // The body's width as the header has it.
 const WIDTH: u16 = BODY as u16;
 
-const KINDS: u8 = 9;
+const KINDS: u8 = 10;
 
 // Where the fields stand in a body.
 const SUBJECT_AT: usize = 0;
@@ -262,6 +271,11 @@ fn event_from(kind: u8, f: Fields) -> Event
         7 => Event::Confirm(Confirm { award: subject }),
         8 => Event::Cash(Cash { position: subject }),
         9 => Event::Close,
+        10 => Event::PairOff(PairOff {
+            short: subject,
+            long: f.price,
+            quantity: f.quantity,
+        }),
         _ => Event::Close,
     }
 }
@@ -317,10 +331,11 @@ fn masks_of(kind: u8) -> Masks
         4 => Masks(0xffff_ffff_ffff_0000, 0xffff_ffff_ffff_ffff),
         5 => Masks(0x0000_0000_ff00_0000, 0xffff_ffff_0000_0000),
         6 => Masks(0xffff_ffff_ffff_0000, 0xffff_ffff_ffff_ffff),
-        // 7 confirm, 8 cash, 9 close
+        // 7 confirm, 8 cash, 9 close, 10 pair-off
         7 => Masks(0xffff_ffff_ffff_0000, 0xffff_ffff_ffff_ffff),
         8 => Masks(0xffff_ffff_ffff_0000, 0xffff_ffff_ffff_ffff),
         9 => Masks(0xffff_ffff_ffff_ffff, 0xffff_ffff_ffff_ffff),
+        10 => Masks(0x0000_0000_ffff_0000, 0xffff_ffff_0000_0000),
         // A byte that is no kind uses none.
         _ => Masks(0xffff_ffff_ffff_ffff, 0xffff_ffff_ffff_ffff),
     }
@@ -445,6 +460,7 @@ fn kind_of(event: Event) -> u8
         Event::Confirm(_) => 7,
         Event::Cash(_) => 8,
         Event::Close => 9,
+        Event::PairOff(_) => 10,
     }
 }
 
@@ -471,6 +487,7 @@ fn fields_of(event: Event) -> Fields
         Event::Confirm(c) => fields_with(c.award, 0, 0, 0, 0, 0, 0),
         Event::Cash(c) => fields_with(c.position, 0, 0, 0, 0, 0, 0),
         Event::Close => fields_with(0, 0, 0, 0, 0, 0, 0),
+        Event::PairOff(p) => fields_with(p.short, 0, 0, p.quantity, p.long, 0, 0),
     }
 }
 

@@ -140,7 +140,7 @@ fn is_open_short(p: Position) -> bool
 pub fn raise_late(
     words: Words,
     counts: &mut [u32; 2048],
-    rows: &[u32; 11264],
+    rows: &[u32; 12288],
     held: usize,
     from: usize,
     day: BusinessDay,

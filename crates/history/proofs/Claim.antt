@@ -11,6 +11,7 @@ use lib.ListN.{length, getD, length-append}
 use lib.Dec.{leb}
 use borrow.Author.Tests.{le-ltb, le-leb, lt-leb, leb-true, leb-false}
 use Rattle.laws.specs.Limits.{ACCOUNTS, SECURITIES}
+use Rattle.laws.specs.Refusals.{accepted-zero}
 use Rattle.laws.specs.Asked.{Said, passed, failed, ask, Within, within, both-bounds}
 use Rattle.register.specs.Accepted.{read-registered}
 use Rattle.events.specs.declared.Award as asked
@@ -23,9 +24,10 @@ use Rattle.plain.specs.declared.Award.{Award}
 use Rattle.plain.specs.declared.Piece.{Piece}
 use Rattle.plain.specs.Book as plain
 use Rattle.plain.specs.Book.{openingRead, new, noPosition, noAward, positionOf, latestPrice}
-use Rattle.plain.specs.Calls.{Call, call}
+use Rattle.plain.specs.Calls.{Call, call, amount}
 use Rattle.plain.specs.Refusals.{refusal}
 use Rattle.plain.specs.Histories.{eventOf, next, pieces, quantity, along, run, handed, acceptedEvents, formedBy, latestBy, balance}
+use Rattle.plain.specs.Claim.{SetOff}
 use Rattle.plain.specs.Cover.{added, Covered, Confirmed}
 use Rattle.plain.specs.Sound.{Sound, Places}
 use Rattle.plain.proofs.Numbered.{nth-at, nth-append, nth-behind}
@@ -35,6 +37,7 @@ use Rattle.plain.proofs.Prices.{given-today}
 use Rattle.plain.proofs.Sound.{done-sound, new-sound}
 use Rattle.plain.proofs.Discharges as discharges
 use Rattle.plain.proofs.Discharges.{discharge, one-price}
+use Rattle.plain.proofs.Pairing.{pairs-off}
 use Rattle.plain.proofs.Covering.{covered}
 use Rattle.plain.proofs.Confirmed.{seller-pays}
 use Rattle.plain.proofs.Accounts.{done-places, new-places, next-balance}
@@ -51,7 +54,7 @@ use Rattle.calls.specs.Reading.{positionAnswer, awardAnswer, priceAnswer, signe
 use Rattle.book.specs.View as whole
 use Rattle.book.proofs.Returns as book
 use Rattle.history.specs.Runs.{Stand, view, Return, piecesOn, Answers, bare, onNumbers, byValue, lent, Runs, stop, step, last, sheets, RunsTo, Begins, inPlace, asOneValue}
-use Rattle.history.specs.Claim.{Onward, none, one, Each, DealtOut, Fresh, PricedOnce, answerIn, CheapestRead, SellerPaysLeast, Booked, Kept, Filled, History}
+use Rattle.history.specs.Claim.{Onward, none, one, Each, DealtOut, Fresh, PricedOnce, PairsOff, answerIn, CheapestRead, SellerPaysLeast, Booked, Kept, Filled, History}
 
 -- What one call returned, with its pieces as the sheet has them: the same, however it was made
 
@@ -132,6 +135,42 @@ fresh s c r h k n e needs = given-today (view s) c n (h .standing .prices) (sym 
 priced-once : (s : Stand) (c : Call) (r : Return) → Sound (view s) → Answers s c r → PricedOnce s c r
 priced-once s c r h k x e is = rw (called k .returned .pieces) (one-price (view s) c x (sym (number k) ∙ e) is)
 
+-- what the read answers to the number of a position that is there
+position-read : (b : plain.Book) (n : ℕ) → Within 1 (length (b .positions)) n → positionAnswer b n ≡ Found (positionOf b n)
+unfolding within
+position-read b n w = rw (le-leb 1 n (w .above), le-leb n (length (b .positions)) (w .below))
+
+-- accounts that were not touched are read as they were
+balance-kept : (b after : plain.Book) → after .ledger ≡ b .ledger → (k : ℕ) → balanceAnswer after k ≡ balanceAnswer b k
+unfolding balance
+balance-kept b after same k = rw same
+
+pair-read : (s : Stand) (c : Call) (r : Return) → Sound (view s) → Answers s c r → PairsOff s c r
+unfolding quantity amount
+pair-read s c r h k x e is =
+    let taken : refusal (view s) c ≡ 0 = sym (number k) ∙ e in
+    let same : view (r .stand) ≡ next (view s) c = called k .returned .book in
+    let d = subst (λ (b : plain.Book). SetOff (view s) b x (pieces (view s) c)) (sym same) (pairs-off (view s) c x taken is) in
+    let after : (n : ℕ) → Within 1 (length (view s .positions)) n → Within 1 (length (view (r .stand) .positions)) n =
+    λ n w. record { above = w .above; below = omega (arith, w .below, d .many) } in
+    record {
+      short = positionOf (view s) (x .short);
+      long = positionOf (view s) (x .long);
+      short-after = positionOf (view (r .stand)) (x .short);
+      long-after = positionOf (view (r .stand)) (x .long);
+      found-short = position-read (view s) (x .short) (d .short-held);
+      found-long = position-read (view s) (x .long) (d .long-held);
+      found-short-after = position-read (view (r .stand)) (x .short) (after (x .short) (d .short-held));
+      found-long-after = position-read (view (r .stand)) (x .long) (after (x .long) (d .long-held));
+      piece = called k .returned .pieces ∙ d .piece;
+      reported = reported k ∙ accepted-zero (refusal (view s) c) (amount (view s) (eventOf c)) 0 taken ∙ ap (amount (view s)) is;
+      member = d .member;
+      kind = d .kind;
+      short-falls = d .short-falls;
+      long-falls = d .long-falls;
+      unpaid = balance-kept (view s) (view (r .stand)) (d .unpaid);
+    }
+
 -- awards that stand behind others: what the read answers to the numbers before them, and to theirs
 answers-earlier : (xs new : List Award) (i : ℕ) → i ≤ length xs → answerIn (xs ++ new) i ≡ answerIn xs i
 unfolding within
@@ -150,10 +189,8 @@ answers-later xs new i =
 
 -- the short of an award that was accepted is found
 award-short : (b : plain.Book) (c : Call) (a : asked.Award) → refusal b c ≡ 0 → eventOf c ≡ event.Award a → positionAnswer b (a .position) ≡ Found (positionOf b (a .position))
-unfolding within
 award-short b (call e sheet) a taken is =
-    let held = award-taken b a sheet (subst (λ (f : Event). refusal b (call f sheet) ≡ 0) is taken) .held in
-    rw (le-leb 1 (a .position) (held .above), le-leb (a .position) (length (b .positions)) (held .below))
+    position-read b (a .position) (award-taken b a sheet (subst (λ (f : Event). refusal b (call f sheet) ≡ 0) is taken) .held)
 
 cheapest-read : (s : Stand) (c : Call) (r : Return) → Sound (view s) → Answers s c r → CheapestRead s c r
 cheapest-read s c r h k a e is =
@@ -295,6 +332,7 @@ claim opening {s} {cs} {rs} e few runs =
       dealt = all-same piecesOn pieces (λ s c r k. called k .returned .pieces) (new opening) e runs;
       discharges = every Sound sound-keeps dealt-out sound runs;
       one-price = every Sound sound-keeps priced-once sound runs;
+      pairs-off = every Sound sound-keeps pair-read sound runs;
       offers = rw same (claim .offers);
       cheapest = every Sound sound-keeps cheapest-read sound runs;
       booked = every Placed placed-keeps booked placed runs;

@@ -13,6 +13,7 @@ use Rattle.laws.specs.Lists.{All, range, sum}
 use Rattle.laws.specs.Integers.{sumℤ}
 use Rattle.events.specs.declared.Award as asked
 use Rattle.events.specs.declared.Cash.{Cash}
+use Rattle.events.specs.declared.PairOff.{PairOff}
 use Rattle.events.specs.declared.Event.the-variants as event
 use Rattle.plain.specs.declared.Opening.{Opening}
 use Rattle.plain.specs.declared.Kind.{Kind}
@@ -23,7 +24,7 @@ use Rattle.plain.specs.Book.{Book, new, noPosition, noAward, nth, there, positi
 use Rattle.plain.specs.Netting.{kindNumber}
 use Rattle.plain.specs.Dealing.{manners, takenBy, fresh}
 use Rattle.plain.specs.Charging.{creditOf, debitOf}
-use Rattle.plain.specs.Calls.{Call, isDischarge, shortOf}
+use Rattle.plain.specs.Calls.{Call, pairedPiece, isDischarge, shortOf}
 use Rattle.plain.specs.Refusals.{refusal}
 use Rattle.plain.specs.Histories.{eventOf, pieces, quantity, charged, along, refusals, quantities, run, allCharges, acceptedEvents, formedBy, tradesOn, latestBy, offersBy, balance}
 use Rattle.plain.specs.Cover.{unitsOf, Cheapest, added, PaysLeast, confirmationsOf}
@@ -64,6 +65,31 @@ Fresh s c r = (n : ℕ) → numberOf (r .outcome) ≡ 0 → NeedsPrice (eventOf 
 -- of a cash settlement that was accepted: all its pieces have one price, the highest term of the rule
 abbrev pub PricedOnce : Stand → Call → Return → Type 0
 PricedOnce s c r = (x : Cash) → numberOf (r .outcome) ≡ 0 → eventOf c ≡ event.Cash x → OnePrice (view s) (x .position) (piecesOn r)
+
+-- "Both fall by the quantity, one piece of manner paired and 0 cents is handed out": of a pair-off that was accepted, its two positions as the public read answers
+-- them before and after it, and what its sheet holds
+pub record PairRead (s : Stand) (x : PairOff) (r : Return) : Type 0 where
+  pub short : Position
+  pub long : Position
+  pub short-after : Position
+  pub long-after : Position
+  pub found-short : positionAnswer (view s) (x .short) ≡ Found short
+  pub found-long : positionAnswer (view s) (x .long) ≡ Found long
+  pub found-short-after : positionAnswer (view (r .stand)) (x .short) ≡ Found short-after
+  pub found-long-after : positionAnswer (view (r .stand)) (x .long) ≡ Found long-after
+  pub piece : piecesOn r ≡ pairedPiece x ∷ []
+  pub reported : quantityOf (r .outcome) ≡ x .quantity
+  -- the two sides are one member's, in business of one kind; that the long is a due one of the security is said of every discharge
+  pub member : long .member ≡ short .member
+  pub kind : long .kind ≡ short .kind
+  -- both fall
+  pub short-falls : short-after .unsettled + x .quantity ≡ short .unsettled
+  pub long-falls : long-after .unsettled + x .quantity ≡ long .unsettled
+  -- nothing is paid
+  pub unpaid : (k : ℕ) → balanceAnswer (view (r .stand)) k ≡ balanceAnswer (view s) k
+
+abbrev pub PairsOff : Stand → Call → Return → Type 0
+PairsOff s c r = (x : PairOff) → numberOf (r .outcome) ≡ 0 → eventOf c ≡ event.PairOff x → PairRead s x r
 
 -- what the public read answers to a number, of these awards
 abbrev pub answerIn : List Award → ℕ → AwardAnswer
@@ -133,7 +159,8 @@ pub record History (opening : Opening) (s : Stand) (cs : List Call) (rs : List R
   pub numbers : map (λ r. numberOf (r .outcome)) rs ≡ refusals (new opening) cs
   pub reported : map (λ r. quantityOf (r .outcome)) rs ≡ quantities (new opening) cs
   pub book : view (last s rs) ≡ run (new opening) cs
-  -- 2. each position's netted quantity, worked out from the accepted trades and closes of the list alone, is delivered, bought in, settled in cash and open
+  -- 2. each position's netted quantity, worked out from the accepted trades and closes of the list alone, is delivered, bought in, settled in cash, paired off
+  -- and open
   pub netted : (i : ℕ) → i < length (view (last s rs) .positions)
       → getD (formedBy opening (acceptedEvents (new opening) cs)) i noPosition .netted
       ≡ sum (λ m. takenBy m (suc i) (sheets rs)) manners + getD (view (last s rs) .positions) i noPosition .unsettled
@@ -157,6 +184,8 @@ pub record History (opening : Opening) (s : Stand) (cs : List Call) (rs : List R
   pub discharges : Each DealtOut s cs rs
   -- and each accepted cash settlement has one price for all its pieces
   pub one-price : Each PricedOnce s cs rs
+  -- and each accepted pair-off sets off a short and a long of one member and kind against each other, by its one piece
+  pub pairs-off : Each PairsOff s cs rs
   -- the offers of the running auction, in order of arrival, come from the accepted attempts, offers and awards alone
   pub offers : view (last s rs) .auction .offers ≡ offersBy (acceptedEvents (new opening) cs)
   -- each accepted award made, of the offers of its auction, the cheapest cover of its short

@@ -12,11 +12,12 @@ use borrow.Author.Tests.{not-false}
 use Rattle.laws.specs.Lists.{All, number}
 use Rattle.laws.specs.Alls.{all-of}
 use Rattle.laws.specs.Sums.{sum-map}
-use Rattle.laws.specs.Asked.{within-low, within-high, Within, within}
-use Rattle.laws.specs.Refusals.{Reason, first, none-applies, first-past, first-there}
+use Rattle.laws.specs.Asked.{within-low, within-high, both-bounds, Within, within}
+use Rattle.laws.specs.Refusals.{Reason, first, numbered, none-applies, first-past, first-there}
 use Rattle.events.specs.declared.Delivery.{Delivery}
 use Rattle.events.specs.declared.Confirm.{Confirm}
 use Rattle.events.specs.declared.Cash.{Cash}
+use Rattle.events.specs.declared.PairOff.{PairOff}
 use Rattle.events.specs.declared.Event.{Event}
 use Rattle.events.specs.declared.Event.the-variants as event
 use Rattle.plain.specs.declared.LatestPrice.{LatestPrice}
@@ -30,15 +31,15 @@ use Rattle.plain.specs.Book as plain
 use Rattle.plain.specs.Dealing.{names, taken, takenBy, lowered, lowering}
 use Rattle.plain.specs.Auction.{unconfirmed}
 use Rattle.plain.specs.Changing as changing
-use Rattle.plain.specs.Calls.{call, dealt, discharged, handsOut, charges, amount, done}
+use Rattle.plain.specs.Calls.{call, dealt, pairedPiece, discharged, handsOut, charges, amount, done}
 use Rattle.rules.specs.Prices.{cashPrice}
 use Rattle.rules.specs.Charges.{buyInCharge}
 use Rattle.rules.specs.Windows.{stepOn}
 use Rattle.rules.specs.declared.Step.{Step}
 use Rattle.plain.specs.Charging.{Charge, charge, buyInCharges, longReferences, settlementPrice, pricedAt, cashCharges, posted, credited, debited, cashChargesBy}
-use Rattle.plain.specs.Refusals.{stepToday, refusal, lookupReasons, deliveryReasons, confirmReasons, cashReasons, free, reasons}
+use Rattle.plain.specs.Refusals.{stepToday, refusal, lookupReasons, deliveryReasons, bothLookupReasons, pairOffReasons, confirmReasons, cashReasons, free, reasons}
 use Rattle.plain.proofs.Accepted.{delivery-taken, confirm-taken, cash-taken}
-use Rattle.plain.specs.Invariants.{Fair, Dealable, Deals, AwardFits}
+use Rattle.plain.specs.Invariants.{Fair, Whole, Dealable, Deals, AwardFits}
 use Rattle.plain.proofs.AwardSteps.{delivery-dealable, confirm-dealable, cash-dealable}
 use Rattle.plain.proofs.Dealt.{deals, longs-suffice}
 use Rattle.plain.proofs.Sound.{done-sound, sound-dealt}
@@ -49,7 +50,7 @@ use Rattle.plain.proofs.Claim.{bounding, accountable}
 use Rattle.tables.specs.Tables.{Positions, Awards}
 use Rattle.tables.specs.declared.Pieces.{Pieces}
 use Rattle.tables.specs.Tables as table
-use Rattle.positions.specs.Dealing.{Dealing, DealtOut, Dealt}
+use Rattle.positions.specs.Dealing.{Lowerable, Dealing, HandedOut, DealtOut, Dealt}
 use Rattle.auction.specs.Awards.{Countable, Confirmable, Confirmed}
 use Rattle.ledger.specs.Posts.{Room}
 use Rattle.ledger.specs.Tabled.{Chargeable, Accounted, Paired, Priceable, Priced}
@@ -82,14 +83,28 @@ lookup-there sheet held n e =
     let h : within 1 held n ≡ true = not-false _ (search) in
     record { above = within-low 1 held n h; below = within-high 1 held n h }
 
--- the refusals before and after the position or award is looked at, in the plain book's order
-module _ (sheet held n whole : ℕ) (rest : List Reason) (is : whole ≡ first (lookupReasons sheet held n ++ rest)) where
-  pub missing-number : (number : ℕ) → number ≡ first (lookupReasons sheet held n) → number ≢ 0 → whole ≡ number
-  missing-number number e some = is ∙ first-there (lookupReasons sheet held n) rest (λ z. some (e ∙ z)) ∙ sym e
+lookup-numbered : (sheet held n : ℕ) → numbered (lookupReasons sheet held n) ≡ true
+unfolding lookupReasons
+lookup-numbered sheet held n = refl
 
-  pub found-number : first (lookupReasons sheet held n) ≡ 0 → whole ≡ first rest
-  unfolding lookupReasons
-  found-number e = is ∙ first-past (lookupReasons sheet held n) rest refl e
+-- the same of both positions of a pair-off
+pub both-there : (sheet held short long : ℕ) → first (bothLookupReasons sheet held short long) ≡ 0 → (Within 1 held short) × (Within 1 held long)
+unfolding bothLookupReasons
+both-there sheet held short long e =
+    let none = none-applies (bothLookupReasons sheet held short long) refl e in
+    (both-bounds 1 held short (not-false _ (search)), both-bounds 1 held long (not-false _ (search)))
+
+both-numbered : (sheet held short long : ℕ) → numbered (bothLookupReasons sheet held short long) ≡ true
+unfolding bothLookupReasons
+both-numbered sheet held short long = refl
+
+-- the refusals before and after the positions or the award are looked at, in the plain book's order
+module _ (front rest : List Reason) (whole : ℕ) (is : whole ≡ first (front ++ rest)) where
+  pub missing-number : (number : ℕ) → number ≡ first front → number ≢ 0 → whole ≡ number
+  missing-number number e some = is ∙ first-there front rest (λ z. some (e ∙ z)) ∙ sym e
+
+  pub found-number : numbered front ≡ true → first front ≡ 0 → whole ≡ first rest
+  found-number n e = is ∙ first-past front rest n e
 
 -- What the callees ask
 
@@ -107,6 +122,20 @@ module _ (b : Kept) (v : Valid b) where
         suffice = longs-suffice (view b) n q (v .sound .settled .even) f;
         whole = v .sound .settled .whole;
         bounded = all-of (Fair (b .opening .register .count) (b .day .0)) (λ p. p .netted ≤ 512000000) (table.positions (b .positions)) (λ p h. h .netted .below) (v .sound .standing .fair);
+      }
+
+  -- units that are open of a position may be discharged of it
+  pub lowerable : (n q : ℕ) → Within 1 (length (table.positions (b .positions))) n → q ≤ plain.positionOf (view b) n .unsettled → Lowerable (plain.positionOf (view b) n) q
+  unfolding view
+  lowerable n q w enough =
+      let ps = table.positions (b .positions) in
+      record {
+        enough = enough;
+        sized =
+            record {
+              whole = nth-all plain.noPosition Whole ps n w (v .sound .settled .whole);
+              bounded = nth-all plain.noPosition (Fair (b .opening .register .count) (b .day .0)) ps n w (v .sound .standing .fair) .netted .below;
+            };
       }
 
   -- each position has an account, and a security that is registered
@@ -156,6 +185,20 @@ module _ (b : Kept) (ps : Positions) (today : Awards) (l : Ledger) where
         places = k;
       }
 
+-- a discharge that is not charged for: a delivery, and a pair-off
+module _ (b : Kept) (v : Valid b) (e : Event) (units : ℕ) where
+  uncharged : units ≡ amount (view b) e → done (view b) e ≡ discharged (view b) (handsOut (view b) e) [] → (r : Dealt) → HandedOut (b .positions) (handsOut (view b) e) r
+      → Done b e (after b (r .positions) (b .awards) (b .ledger)) units (r .pieces)
+  unfolding view discharged posted credited debited
+  uncharged much does r f =
+      record {
+        book = after-view b (r .positions) (b .awards) (b .ledger) (handsOut (view b) e) (table.awards (b .awards)) [] (f .positions) refl refl ∙ sym does;
+        fits = after-fits b (r .positions) (b .awards) (b .ledger) (v .fits) (f .positions-fit) (v .fits .awards) (v .fits .places);
+        quantity = much;
+        pieces = f .pieces;
+        pieces-fit = f .pieces-fit;
+      }
+
 -- Delivery
 
 module _ (b : Kept) (v : Valid b) (d : Delivery) where
@@ -170,21 +213,42 @@ module _ (b : Kept) (v : Valid b) (d : Delivery) where
         → reserved ≡ unconfirmed (d .position) (table.awards (b .awards)) → number ≡ first (deliveryReasons p (b .day .0) (b .auction .position) (p .unsettled - reserved) d)
         → refusal (view b) (call (event.Delivery d) sheet) ≡ number
     unfolding view
-    delivery-number p reserved number e same units is = found-number sheet _ _ _ _ delivery-split e ∙ sym (rw (same, units) at is)
+    delivery-number p reserved number e same units is =
+        found-number (lookupReasons sheet _ _) _ _ delivery-split (lookup-numbered _ _ _) e ∙ sym (rw (same, units) at is)
 
   pub delivery-dealing : Dischargeable b (event.Delivery d) → Dealing (b .positions) (b .day .0) (d .position) (d .quantity)
   delivery-dealing k = dealing b v (d .position) (d .quantity) (delivery-dealable (view b) d (delivery-taken (view b) d 1024 (k .taken)))
 
   pub delivered : (r : Dealt) → DealtOut (b .positions) (b .day .0) (d .position) (d .quantity) manner.Delivered r → Done b (event.Delivery d) (after b (r .positions) (b .awards) (b .ledger)) (d .quantity) (r .pieces)
-  unfolding view done discharged handsOut charges amount dealt posted credited debited
-  delivered r f =
-      record {
-        book = after-view b (r .positions) (b .awards) (b .ledger) (handsOut (view b) (event.Delivery d)) (table.awards (b .awards)) [] (f .positions) refl refl;
-        fits = after-fits b (r .positions) (b .awards) (b .ledger) (v .fits) (f .positions-fit) (v .fits .awards) (v .fits .places);
-        quantity = refl;
-        pieces = f .pieces;
-        pieces-fit = f .pieces-fit;
-      }
+  unfolding view done handsOut charges amount dealt
+  delivered r f = uncharged b v (event.Delivery d) (d .quantity) refl refl r f
+
+-- Pair-off
+
+module _ (b : Kept) (v : Valid b) (x : PairOff) where
+  -- its reasons once both positions are there
+  abbrev pairReasons : List Reason
+  pairReasons =
+      let p = plain.positionOf (view b) (x .short) in
+      pairOffReasons p (plain.positionOf (view b) (x .long)) (b .day .0) (b .auction .position) (p .unsettled - unconfirmed (x .short) (table.awards (b .awards))) x
+
+  module _ (sheet : ℕ) where
+    pub pair-off-split : refusal (view b) (call (event.PairOff x) sheet) ≡ first (bothLookupReasons sheet (b .positions .count) (x .short) (x .long) ++ pairReasons)
+    unfolding view free reasons refusal Rattle.tables.specs.Tables.auction
+    pair-off-split =
+        ap (λ (k : ℕ). first (bothLookupReasons sheet k (x .short) (x .long) ++ pairReasons)) (positions-many (b .positions) (v .fits .positions))
+
+    pub pair-off-number : (p q : Position) (reserved number : ℕ)
+        → first (bothLookupReasons sheet (b .positions .count) (x .short) (x .long)) ≡ 0 → p ≡ plain.nth plain.noPosition (table.positions (b .positions)) (x .short)
+        → q ≡ plain.nth plain.noPosition (table.positions (b .positions)) (x .long) → reserved ≡ unconfirmed (x .short) (table.awards (b .awards))
+        → number ≡ first (pairOffReasons p q (b .day .0) (b .auction .position) (p .unsettled - reserved) x) → refusal (view b) (call (event.PairOff x) sheet) ≡ number
+    unfolding view
+    pair-off-number p q reserved number e own other units is =
+        found-number (bothLookupReasons sheet _ _ _) _ _ pair-off-split (both-numbered _ _ _ _) e ∙ sym (rw (own, other, units) at is)
+
+  pub paired-off : (r : Dealt) → HandedOut (b .positions) (pairedPiece x ∷ []) r → Done b (event.PairOff x) (after b (r .positions) (b .awards) (b .ledger)) (x .quantity) (r .pieces)
+  unfolding view done handsOut charges amount
+  paired-off r f = uncharged b v (event.PairOff x) (x .quantity) refl refl r f
 
 -- Confirmation
 
@@ -197,7 +261,7 @@ module _ (b : Kept) (v : Valid b) (c : Confirm) where
 
     pub confirm-number : (a : Award) (number : ℕ) → first (lookupReasons sheet (b .awards .count) (c .award)) ≡ 0 → a ≡ plain.nth plain.noAward (table.awards (b .awards)) (c .award) → number ≡ first (confirmReasons a) → refusal (view b) (call (event.Confirm c) sheet) ≡ number
     unfolding view
-    confirm-number a number e same is = found-number sheet _ _ _ _ confirm-split e ∙ sym (rw same at is)
+    confirm-number a number e same is = found-number (lookupReasons sheet _ _) _ _ confirm-split (lookup-numbered _ _ _) e ∙ sym (rw same at is)
 
   -- the award that is confirmed, and its short
   abbrev award : Award
@@ -271,7 +335,7 @@ module _ (price : ℕ) (xs : List Piece) where
 
   lowered-priced : (n : ℕ) (p : Position) → lowered (map (pricedAt price) xs) n p ≡ lowered xs n p
   unfolding lowered
-  lowered-priced n p = rw (taken-priced n, by-priced manner.Delivered n, by-priced manner.BoughtIn n, by-priced manner.Cash n)
+  lowered-priced n p = rw (taken-priced n, by-priced manner.Delivered n, by-priced manner.BoughtIn n, by-priced manner.Cash n, by-priced manner.Paired n)
 
   lowering-priced : (ps : List Position) → lowering (map (pricedAt price) xs) ps ≡ lowering xs ps
   unfolding lowering
@@ -294,7 +358,7 @@ module _ (b : Kept) (v : Valid b) (c : Cash) where
         → refusal (view b) (call (event.Cash c) sheet) ≡ number
     unfolding view
     cash-number p class latest today number e same classed looked step is =
-        found-number sheet _ _ _ _ cash-split e ∙ sym (rw (step, looked, classed, same) at is)
+        found-number (lookupReasons sheet _ _) _ _ cash-split (lookup-numbered _ _ _) e ∙ sym (rw (step, looked, classed, same) at is)
 
   pub cash-security : (p : Position) → Within 1 (b .positions .count) (c .position) → p ≡ plain.nth plain.noPosition (table.positions (b .positions)) (c .position) → Within 1 32 (p .security)
   unfolding view

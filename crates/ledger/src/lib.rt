@@ -83,7 +83,7 @@ pub fn post_award_fines(
     ledger: Ledger,
     awards: &[u32; 1280],
     awarded: usize,
-    rows: &[u32; 11264],
+    rows: &[u32; 12288],
     held: usize,
     prices: Prices,
     register: Register,
@@ -112,7 +112,7 @@ pub fn post_award_fines(
 
 pub fn post_late_fines(
     ledger: Ledger,
-    rows: &[u32; 11264],
+    rows: &[u32; 12288],
     held: usize,
     prices: Prices,
     register: Register,
@@ -142,7 +142,7 @@ pub fn post_close(
     ledger: Ledger,
     awards: &[u32; 1280],
     awarded: usize,
-    rows: &[u32; 11264],
+    rows: &[u32; 12288],
     held: usize,
     prices: Prices,
     register: Register,
@@ -160,7 +160,7 @@ pub fn post_close(
 }
 
 // The first pass of a cash settlement over its pieces: the highest reference price among their longs.
-fn highest_reference(rows: &[u32; 11264], held: usize, sheet: &[u64; 4096], dealt: usize) -> u32
+fn highest_reference(rows: &[u32; 12288], held: usize, sheet: &[u64; 4096], dealt: usize) -> u32
     requires { ⌜ Priceable (pieceTable Cash (now sheet) dealt) (positionTable (now rows) held) ⌝ }
     ensures { λ r. ⌜ r ≡ highestLong (positionTable (now (rows .entry)) held) (pieceTable Cash (now (sheet .entry)) dealt) ⌝ }
 {
@@ -182,7 +182,7 @@ fn highest_reference(rows: &[u32; 11264], held: usize, sheet: &[u64; 4096], deal
 // The second pass: each piece gets its cents at the price of the settlement and is paid for, on the lent sheet.
 fn post_payments(
     ledger: Ledger,
-    rows: &[u32; 11264],
+    rows: &[u32; 12288],
     held: usize,
     sheet: &mut [u64; 4096],
     dealt: usize,
@@ -211,7 +211,7 @@ fn post_payments(
 // The payments at the one price of the settlement, and the fee of the short, which is given as it was before the settlement.
 pub fn post_cash(
     ledger: Ledger,
-    rows: &[u32; 11264],
+    rows: &[u32; 12288],
     held: usize,
     sheet: &mut [u64; 4096],
     dealt: usize,

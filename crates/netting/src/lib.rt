@@ -184,6 +184,7 @@ fn position_of(
             delivered: 0,
             bought: 0,
             cash: 0,
+            paired: 0,
             unsettled: netted,
         };
     }
@@ -199,13 +200,14 @@ fn position_of(
         delivered: 0,
         bought: 0,
         cash: 0,
+        paired: 0,
         unsettled: netted,
     }
 }
 
 // How many positions the table holds with those of one member's business of a kind, by rising security.
 fn net_kind(
-    rows: &mut [u32; 11264],
+    rows: &mut [u32; 12288],
     totals: &[u32; 8064],
     day: BusinessDay,
     member: u8,
@@ -213,8 +215,8 @@ fn net_kind(
     securities: u16,
     held: usize,
 ) -> usize
-    requires { ⌜ (KindFits (totalsOf (now totals)) day member kind securities held) × (length (now rows) ≡ 11264) ⌝ }
-    ensures { λ r. ⌜ (Appended (positionTable (now (rows .entry)) held) (kindPositions (day .0) (totalsOf (now (totals .entry))) securities member kind) (positionTable (now (rows .exit)) r)) × (length (now (rows .exit)) ≡ 11264) ⌝ }
+    requires { ⌜ (KindFits (totalsOf (now totals)) day member kind securities held) × (length (now rows) ≡ 12288) ⌝ }
+    ensures { λ r. ⌜ (Appended (positionTable (now (rows .entry)) held) (kindPositions (day .0) (totalsOf (now (totals .entry))) securities member kind) (positionTable (now (rows .exit)) r)) × (length (now (rows .exit)) ≡ 12288) ⌝ }
 {
     let mut n = held;
     let mut security: u16 = 1;
@@ -233,14 +235,14 @@ fn net_kind(
 
 // How many positions the table holds with those of every member's own business.
 fn net_own(
-    rows: &mut [u32; 11264],
+    rows: &mut [u32; 12288],
     own: &[u32; 8064],
     day: BusinessDay,
     securities: u16,
     held: usize,
 ) -> usize
-    requires { ⌜ (MembersFit (ownPositions (day .0) (totalsOf (now own)) securities) day securities held) × (length (now rows) ≡ 11264) ⌝ }
-    ensures { λ r. ⌜ (Appended (positionTable (now (rows .entry)) held) (each (ownPositions (day .0) (totalsOf (now (own .entry))) securities) (range 1 MEMBERS)) (positionTable (now (rows .exit)) r)) × (length (now (rows .exit)) ≡ 11264) ⌝ }
+    requires { ⌜ (MembersFit (ownPositions (day .0) (totalsOf (now own)) securities) day securities held) × (length (now rows) ≡ 12288) ⌝ }
+    ensures { λ r. ⌜ (Appended (positionTable (now (rows .entry)) held) (each (ownPositions (day .0) (totalsOf (now (own .entry))) securities) (range 1 MEMBERS)) (positionTable (now (rows .exit)) r)) × (length (now (rows .exit)) ≡ 12288) ⌝ }
 {
     let mut n = held;
     let mut member: u8 = 1;
@@ -253,15 +255,15 @@ fn net_own(
 
 // How many positions the table holds with those of every member's business, its own before its clients'.
 fn net_both(
-    rows: &mut [u32; 11264],
+    rows: &mut [u32; 12288],
     own: &[u32; 8064],
     client: &[u32; 8064],
     day: BusinessDay,
     securities: u16,
     held: usize,
 ) -> usize
-    requires { ⌜ (MembersFit (bothPositions (day .0) (totalsOf (now own)) (totalsOf (now client)) securities) day securities held) × (length (now rows) ≡ 11264) ⌝ }
-    ensures { λ r. ⌜ (Appended (positionTable (now (rows .entry)) held) (each (bothPositions (day .0) (totalsOf (now (own .entry))) (totalsOf (now (client .entry))) securities) (range 1 MEMBERS)) (positionTable (now (rows .exit)) r)) × (length (now (rows .exit)) ≡ 11264) ⌝ }
+    requires { ⌜ (MembersFit (bothPositions (day .0) (totalsOf (now own)) (totalsOf (now client)) securities) day securities held) × (length (now rows) ≡ 12288) ⌝ }
+    ensures { λ r. ⌜ (Appended (positionTable (now (rows .entry)) held) (each (bothPositions (day .0) (totalsOf (now (own .entry))) (totalsOf (now (client .entry))) securities) (range 1 MEMBERS)) (positionTable (now (rows .exit)) r)) × (length (now (rows .exit)) ≡ 12288) ⌝ }
 {
     let mut n = held;
     let mut member: u8 = 1;
@@ -283,7 +285,7 @@ fn net_both(
 
 // How many positions the table holds with those of a day that has client business.
 fn net_clients(
-    rows: &mut [u32; 11264],
+    rows: &mut [u32; 12288],
     own: &[u32; 8064],
     held: usize,
     trades: &[u32; 3584],
@@ -292,8 +294,8 @@ fn net_clients(
     day: BusinessDay,
     securities: u16,
 ) -> usize
-    requires { ⌜ (DayFits (positionTable (now rows) held) (tradeTable (now trades) count netted) day securities) × (Gathered Kind.Own (tradeTable (now trades) count netted) (totalsOf (now own))) × (length (now rows) ≡ 11264) ⌝ }
-    ensures { λ r. ⌜ (DayNetted (positionTable (now (rows .entry)) held) (tradeTable (now (trades .entry)) count netted) day securities (positionTable (now (rows .exit)) r)) × (length (now (rows .exit)) ≡ 11264) ⌝ }
+    requires { ⌜ (DayFits (positionTable (now rows) held) (tradeTable (now trades) count netted) day securities) × (Gathered Kind.Own (tradeTable (now trades) count netted) (totalsOf (now own))) × (length (now rows) ≡ 12288) ⌝ }
+    ensures { λ r. ⌜ (DayNetted (positionTable (now (rows .entry)) held) (tradeTable (now (trades .entry)) count netted) day securities (positionTable (now (rows .exit)) r)) × (length (now (rows .exit)) ≡ 12288) ⌝ }
 {
     let mut client = no_totals();
     gather(&mut client, Kind::Client, trades, netted, count);
@@ -302,7 +304,7 @@ fn net_clients(
 
 // How many positions the table holds with those that the day's trades make.
 fn net_trades(
-    rows: &mut [u32; 11264],
+    rows: &mut [u32; 12288],
     held: usize,
     trades: &[u32; 3584],
     netted: usize,
@@ -310,8 +312,8 @@ fn net_trades(
     day: BusinessDay,
     securities: u16,
 ) -> usize
-    requires { ⌜ (DayFits (positionTable (now rows) held) (tradeTable (now trades) count netted) day securities) × (length (now rows) ≡ 11264) ⌝ }
-    ensures { λ r. ⌜ (DayNetted (positionTable (now (rows .entry)) held) (tradeTable (now (trades .entry)) count netted) day securities (positionTable (now (rows .exit)) r)) × (length (now (rows .exit)) ≡ 11264) ⌝ }
+    requires { ⌜ (DayFits (positionTable (now rows) held) (tradeTable (now trades) count netted) day securities) × (length (now rows) ≡ 12288) ⌝ }
+    ensures { λ r. ⌜ (DayNetted (positionTable (now (rows .entry)) held) (tradeTable (now (trades .entry)) count netted) day securities (positionTable (now (rows .exit)) r)) × (length (now (rows .exit)) ≡ 12288) ⌝ }
 {
     let mut own = no_totals();
     gather(&mut own, Kind::Own, trades, netted, count);
@@ -323,7 +325,7 @@ fn net_trades(
 
 // How many positions the table holds with those of the day. A day without trades makes none.
 pub fn net_day(
-    rows: &mut [u32; 11264],
+    rows: &mut [u32; 12288],
     held: usize,
     trades: &[u32; 3584],
     netted: usize,
@@ -331,8 +333,8 @@ pub fn net_day(
     day: BusinessDay,
     securities: u16,
 ) -> usize
-    requires { ⌜ (DayFits (positionTable (now rows) held) (tradeTable (now trades) count netted) day securities) × (length (now rows) ≡ 11264) ⌝ }
-    ensures { λ r. ⌜ (DayNetted (positionTable (now (rows .entry)) held) (tradeTable (now (trades .entry)) count netted) day securities (positionTable (now (rows .exit)) r)) × (length (now (rows .exit)) ≡ 11264) ⌝ }
+    requires { ⌜ (DayFits (positionTable (now rows) held) (tradeTable (now trades) count netted) day securities) × (length (now rows) ≡ 12288) ⌝ }
+    ensures { λ r. ⌜ (DayNetted (positionTable (now (rows .entry)) held) (tradeTable (now (trades .entry)) count netted) day securities (positionTable (now (rows .exit)) r)) × (length (now (rows .exit)) ≡ 12288) ⌝ }
 {
     if netted == count {
         return held;

@@ -100,7 +100,7 @@ fn put_position(page: &mut [u8], isins: &[u8; 384], number: u16, position: Posit
 }
 
 // The lines of the first `count` positions, by rising number from 1.
-fn put_positions(page: &mut [u8], isins: &[u8; 384], rows: &[u32; 11264], count: usize)
+fn put_positions(page: &mut [u8], isins: &[u8; 384], rows: &[u32; 12288], count: usize)
     requires { ⌜ (LINE * count ≤ length (now page)) × (Showable (now isins) (now rows) count) ⌝ }
     ensures { λ _. ⌜ now (page .exit) ≡ pageLines (now (isins .entry)) (positions (positionTable (now (rows .entry)) count)) ++ drop (LINE * count) (now (page .entry)) ⌝ }
 {
@@ -113,7 +113,7 @@ fn put_positions(page: &mut [u8], isins: &[u8; 384], rows: &[u32; 11264], count:
 }
 
 // The page of a book: the bytes written, or refusal 31, before anything is written.
-fn show_positions(page: &mut [u8], core: Core, rows: &[u32; 11264]) -> u64
+fn show_positions(page: &mut [u8], core: Core, rows: &[u32; 12288]) -> u64
     requires { ⌜ ((trades awards counts : List ℕ) × Held core (numbers (now rows) trades awards counts)) ⌝ }
     ensures { λ r. ⌜ ((trades awards counts : List ℕ) → Shown (bookOf core (numbers (now (rows .entry)) trades awards counts)) (now (page .entry)) (now (page .exit)) r) ⌝ }
 {

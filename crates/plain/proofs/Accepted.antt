@@ -21,13 +21,14 @@ use Rattle.events.specs.declared.Offer.{Offer}
 use Rattle.events.specs.declared.Award as asked
 use Rattle.events.specs.declared.Confirm.{Confirm}
 use Rattle.events.specs.declared.Cash.{Cash}
+use Rattle.events.specs.declared.PairOff.{PairOff}
 use Rattle.events.specs.declared.Event.{Event}
 use Rattle.events.specs.declared.Event.the-variants as event
 use Rattle.plain.specs.Book.{Book, positionOf, awardOf, latestPrice}
 use Rattle.plain.specs.Dealing.{due}
 use Rattle.plain.specs.Auction.{failing, unconfirmed}
 use Rattle.plain.specs.Calls.{Call, call, done}
-use Rattle.plain.specs.Refusals.{isOneParty, hasKinds, isNever, isGivenBefore, stepToday, free, runsOn, reasons, refusal}
+use Rattle.plain.specs.Refusals.{isOneParty, hasKinds, isPairable, isNever, isGivenBefore, stepToday, free, runsOn, reasons, refusal}
 use Rattle.plain.specs.Histories.{eventOf, next, run, acceptedEvents}
 
 -- what 19 and 32 leave: a price was given, and not before today
@@ -96,6 +97,17 @@ module _ (b : Book) where
   pub record CloseTaken : Type 0 where
     pub quiet : b .auction .position ≡ 0
     pub early : b .day < LAST-DAY
+
+  pub record PairOffTaken (x : PairOff) : Type 0 where
+    pub held : Within 1 (length (b .positions)) (x .short)
+    pub long-held : Within 1 (length (b .positions)) (x .long)
+    pub some-units : x .quantity ≢ 0
+    pub short : positionOf b (x .short) .short ≡ true
+    pub is-due : due (b .day) (positionOf b (x .short)) ≡ true
+    pub pairable : isPairable (b .day) (positionOf b (x .short)) (positionOf b (x .long)) ≡ true
+    pub quiet : runsOn (b .auction .position) (x .short) ≡ false
+    pub enough : x .quantity ≤ free b (x .short)
+    pub long-enough : x .quantity ≤ positionOf b (x .long) .unsettled
 
   unfolding-all : Unit {0}
   unfolding reasons refusal
@@ -202,6 +214,22 @@ module _ (b : Book) where
       let h = none-applies (reasons b (call event.Close sheet)) refl e in
       let at-zero : b .auction .position ≤ 0 = ltb-false _ _ (search) in
       record { quiet = omega arith; early = leb-false _ _ (search) }
+
+  pub pair-off-taken : (x : PairOff) (sheet : ℕ) → refusal b (call (event.PairOff x) sheet) ≡ 0 → PairOffTaken x
+  unfolding unfolding-all
+  pair-off-taken x sheet e =
+      let h = none-applies (reasons b (call (event.PairOff x) sheet)) refl e in
+      record {
+        held = both-bounds 1 (length (b .positions)) (x .short) (not-false _ (search));
+        long-held = both-bounds 1 (length (b .positions)) (x .long) (not-false _ (search));
+        some-units = eqb-false _ _ (search);
+        short = not-false _ (search);
+        is-due = not-false _ (search);
+        pairable = not-false _ (search);
+        quiet = search;
+        enough = ltb-false _ _ (search);
+        long-enough = ltb-false _ _ (search);
+      }
 
 -- what holds of the done and of the kept holds of what the refusal number chooses
 pub either : {A : Type 0} (P : A → Type 0) (n : ℕ) (x y : A) → (n ≡ 0 → P x) → P y → P (accepted n x y)

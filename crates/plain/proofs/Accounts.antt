@@ -131,6 +131,7 @@ done-ledger b (event.Award a) = posted-none (b .ledger)
 done-ledger b (event.Confirm c) = refl
 done-ledger b (event.Cash c) = refl
 done-ledger b event.Close = refl
+done-ledger b (event.PairOff x) = refl
 
 chosen-ledger : (n : ℕ) (x y : Book) (cs : List Charge) → x .ledger ≡ posted (y .ledger) cs → accepted n x y .ledger ≡ posted (y .ledger) (accepted n cs [])
 chosen-ledger zero x y cs e = e
@@ -289,6 +290,7 @@ module _ (b : Book) (h : Accountable b) where
       all-append Booked (each (awardFines b) (b .awards)) (each (lateFines b) (b .positions))
       (all-each Booked (awardFines b) AwardFits (b .awards) award-booked (h .awards))
       (all-each Booked (lateFines b) (Fair (b .opening .register .count) (b .day)) (b .positions) late-booked (h .positions))
+  booked (event.PairOff x) = tt
 
 pub posted-balanced : (l : Ledger) (cs : List Charge) → Places l → All Booked cs → Balanced l → Balanced (posted l cs)
 posted-balanced l cs p h e =

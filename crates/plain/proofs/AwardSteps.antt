@@ -198,10 +198,14 @@ confirmed-named k j awards h l c =
 
 -- Discharges may be dealt out
 
-pub delivery-dealable : (b : Book) (d : Delivery) → DeliveryTaken b d → Dealable b (d .position) (d .quantity)
+-- a quantity that is free of a short is open
+pub free-open : (b : Book) (n q : ℕ) → q ≤ free b n → q ≤ positionOf b n .unsettled
 unfolding free
+free-open b n q h = omega arith
+
+pub delivery-dealable : (b : Book) (d : Delivery) → DeliveryTaken b d → Dealable b (d .position) (d .quantity)
 delivery-dealable b d t =
-    record { held = t .held; short = t .short; is-due = t .is-due; enough = omega (arith, t .enough) }
+    record { held = t .held; short = t .short; is-due = t .is-due; enough = free-open b (d .position) (d .quantity) (t .enough) }
 
 pub confirm-dealable : (b : Book) (c : Confirm) → ConfirmTaken b c → AuctionedBook b → Dealable b (awardOf b (c .award) .position) (awardOf b (c .award) .quantity)
 confirm-dealable b c t h =
@@ -245,15 +249,17 @@ lowered-keeps {b} {xs = xs} f awards' h same fit marks first here others =
       covered = covered-lowered f awards' h here others;
     }
 
-pub delivery-keeps : (b : Book) (d : Delivery) (xs : List Piece) (m : Manner) → DeliveryTaken b d → Deals b m (d .position) (d .quantity) xs → AuctionedBook b → Auctioned (b .opening .register) (b .day) (lowering xs (b .positions)) (b .auction) (b .awards) (b .marks)
+-- of what is free of a short: a delivery, and a pair-off
+pub free-keeps : (b : Book) (n q : ℕ) (xs : List Piece) (m : Manner) → q ≤ free b n → Deals b m n q xs → AuctionedBook b → Auctioned (b .opening .register) (b .day) (lowering xs (b .positions)) (b .auction) (b .awards) (b .marks)
 unfolding free
-delivery-keeps b d xs m t f h =
-    lowered-keeps f (b .awards) h refl (h .awards-fit) (h .awards-marked) (h .auction-first) (omega (arith, t .enough, positive)) (λ k n. refl)
+free-keeps b n q xs m enough f h =
+    lowered-keeps f (b .awards) h refl (h .awards-fit) (h .awards-marked) (h .auction-first) (omega (arith, enough, positive)) (λ k d. refl)
   where
-    positive : unconfirmed (d .position) (b .awards) ≤ positionOf b (d .position) .unsettled
+    positive : unconfirmed n (b .awards) ≤ positionOf b n .unsettled
     positive =
-        let own : suc (d .position - 1) ≡ d .position = omega (arith, t .held .above) in
-        rw (nth-at noPosition (b .positions) (d .position) (t .held .above)) (rw own at (h .covered (d .position - 1) (omega (arith, t .held .above, t .held .below))))
+        let held = f .dealable .held in
+        let own : suc (n - 1) ≡ n = omega (arith, held .above) in
+        rw (nth-at noPosition (b .positions) n (held .above)) (rw own at (h .covered (n - 1) (omega (arith, held .above, held .below))))
 
 pub cash-keeps : (b : Book) (c : Cash) (xs : List Piece) (m : Manner) (q : ℕ) → CashTaken b c → q ≤ positionOf b (c .position) .unsettled → Deals b m (c .position) q xs → AuctionedBook b → Auctioned (b .opening .register) (b .day) (lowering xs (b .positions)) (b .auction) (b .awards) (b .marks)
 unfolding stepToday

@@ -262,6 +262,9 @@ done-bound b (call (event.Cash c) sheet) r f d h =
     discharge-bound b (handsOut b (event.Cash c)) (charges b (event.Cash c)) q
     (shorts-fall d) (omega (arith, cash-cents b f c d)) h
 done-bound b (call event.Close sheet) r f d h = close-bound b (close-taken b sheet r .early) f h
+done-bound b (call (event.PairOff x) sheet) r f d h =
+    discharge-bound b (handsOut b (event.PairOff x)) (charges b (event.PairOff x)) (x .quantity)
+    (shorts-fall d) (unfold charges in omega arith) h
 
 pub new-bound : (opening : Opening) → Bound (new opening)
 unfolding new

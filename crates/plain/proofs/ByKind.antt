@@ -74,6 +74,7 @@ module _ (member kind security d : ℕ) (held : Position → Bool) (g : ℕ → 
   later day trades (event.Award a ∷ es) h = later day trades es h
   later day trades (event.Confirm c ∷ es) h = later day trades es h
   later day trades (event.Cash c ∷ es) h = later day trades es h
+  later day trades (event.PairOff x ∷ es) h = later day trades es h
   later day trades (event.Close ∷ es) h =
       omega (
         arith,
@@ -93,6 +94,7 @@ module _ (member kind security d : ℕ) (held : Position → Bool) (g : ℕ → 
   all-made day trades (event.Award a ∷ es) = all-made day trades es
   all-made day trades (event.Confirm c ∷ es) = all-made day trades es
   all-made day trades (event.Cash c ∷ es) = all-made day trades es
+  all-made day trades (event.PairOff x ∷ es) = all-made day trades es
   all-made day trades (event.Close ∷ es) = go (ask (eqb day d)) (all-made (suc day) [] es)
     where
       parts : nettedOf held (netted day trades ks ++ formed ks (suc day) [] es) ≡ nettedOf held (netted day trades ks) + nettedOf held (formed ks (suc day) [] es)

@@ -14,6 +14,7 @@ use Rattle.plain.proofs.Sound.{done-sound, new-sound, sound, sound-deal
 use Rattle.plain.proofs.Tally.{tally}
 use Rattle.plain.specs.Claim.{Claim}
 use Rattle.plain.proofs.Discharges.{discharge, one-price, refused}
+use Rattle.plain.proofs.Pairing.{pairs-off}
 use Rattle.plain.proofs.Offered.{offered-new}
 use Rattle.plain.proofs.Covering.{covered}
 use Rattle.plain.proofs.Confirmed.{seller-pays}
@@ -55,6 +56,7 @@ claim opening cs =
       discharges = λ c e s. discharge (run (new opening) cs) c h e s;
       fresh = λ c s e k. given-today (run (new opening) cs) c s (h .standing .prices) e k;
       one-price = one-price (run (new opening) cs);
+      pairs-off = pairs-off (run (new opening) cs);
       offers = offered-new opening cs;
       cheapest = covered (run (new opening) cs);
       pays-least = λ c a later e is confirmed. seller-pays (run (new opening) cs) c a later h e is confirmed;

@@ -177,6 +177,7 @@ module _ (first many : ℕ) where
         confirms b (done b (event.Confirm c)) (c .award) room (confirm-taken b c sheet e .unconfirmed) ours refl (discharged-alike b (handsOut b (event.Confirm c)))
     done-confirms b (call (event.Cash c) sheet) e day room ours = kept-all b (done b (event.Cash c)) room refl (discharged-alike b (handsOut b (event.Cash c)))
     done-confirms b (call event.Close sheet) e day room ours = absurd (omega arith)
+    done-confirms b (call (event.PairOff x) sheet) e day room ours = kept-all b (done b (event.PairOff x)) room refl (discharged-alike b (handsOut b (event.PairOff x)))
 
     next-confirms : (b : Book) (c : Call) → next b c .day ≡ b .day → first + many ≤ length (b .awards) → ((a : Award) → buyInCharges b a ≡ buyInCharges met a)
         → Confirming b (next b c) (cond (confirmsOneOf first many (eventOf c)) (charged b c) [])

@@ -16,11 +16,13 @@ use Rattle.laws.specs.Alls.{all-of, all-both, all-at, all-places, length-number
 use Rattle.plain.specs.declared.Position.{Position}
 use Rattle.plain.specs.declared.Piece.{Piece}
 use Rattle.plain.specs.declared.Manner.{Manner}
-use Rattle.plain.specs.declared.Manner.the-variants.{Delivered, BoughtIn, Cash}
+use Rattle.plain.specs.declared.Manner.the-variants.{Delivered, BoughtIn, Cash, Paired}
 use Rattle.plain.specs.Book.{Book, noPosition, positionOf, nth}
 use Rattle.plain.specs.Dealing.{mannerNumber, due, longOf, names, taken, takenBy, lowered, lowering}
+use Rattle.plain.specs.Charging.{Charge}
+use Rattle.plain.specs.Calls.{discharged}
 use Rattle.plain.specs.Invariants.{Whole, Untouched, dueShort, dueLong, openOf, shortOn, longOn, Even, DueLong, asLong, Deals}
-use Rattle.plain.proofs.Numbered.{nth-at, place-nth}
+use Rattle.plain.proofs.Numbered.{nth-at, place-nth, nth-number}
 
 -- Lowered positions
 
@@ -34,20 +36,27 @@ lowering-at xs ps i h =
     let k : 1 + i ≡ suc i = omega arith in
     getD-number (lowered xs) 1 ps i noPosition noPosition h ∙ ap (λ (n : ℕ). lowered xs n (getD ps i noPosition)) k
 
+-- what is open of a position after a discharge is what was, less what the pieces take of it
+pub left-open : (b : Book) (xs : List Piece) (cs : List Charge) (n : ℕ) → Within 1 (length (b .positions)) n
+    → positionOf (discharged b xs cs) n .unsettled ≡ positionOf b n .unsettled - taken n xs
+unfolding discharged lowering lowered
+left-open b xs cs n h = ap (λ (p : Position). p .unsettled) (nth-number noPosition (lowered xs) noPosition (b .positions) n h)
+
 -- a sum that lowering does not see
 pub lowering-same : (f : Position → ℕ) (xs : List Piece) → ((k : ℕ) (p : Position) → f (lowered xs k p) ≡ f p) → (n : ℕ) (ps : List Position) → sum f (number (lowered xs) n ps) ≡ sum f ps
 lowering-same f xs h n [] = refl
 lowering-same f xs h n (p ∷ ps) = omega (arith, h n p, lowering-same f xs h (suc n) ps)
 
--- each manner is one of three
+-- each manner is one of four
 by-manners : (n : ℕ) (x : Piece) (m : Manner)
     → names n x
-    ≡ only (eqb (mannerNumber m) 1) (names n x) + only (eqb (mannerNumber m) 2) (names n x) + only (eqb (mannerNumber m) 3) (names n x)
+    ≡ only (eqb (mannerNumber m) 1) (names n x) + only (eqb (mannerNumber m) 2) (names n x) + only (eqb (mannerNumber m) 3) (names n x) + only (eqb (mannerNumber m) 4) (names n x)
 by-manners n x Delivered = omega arith
 by-manners n x BoughtIn = omega arith
 by-manners n x Cash = omega arith
+by-manners n x Paired = omega arith
 
-pub taken-by-manner : (n : ℕ) (xs : List Piece) → taken n xs ≡ takenBy Delivered n xs + takenBy BoughtIn n xs + takenBy Cash n xs
+pub taken-by-manner : (n : ℕ) (xs : List Piece) → taken n xs ≡ takenBy Delivered n xs + takenBy BoughtIn n xs + takenBy Cash n xs + takenBy Paired n xs
 unfolding taken takenBy
 taken-by-manner n [] = refl
 taken-by-manner n (x ∷ xs) = omega (arith, by-manners n x (x .manner), taken-by-manner n xs)

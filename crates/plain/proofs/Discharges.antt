@@ -38,7 +38,7 @@ dealt-out b c m n e f =
       longs = rw given (f .longs);
     }
 
--- every accepted delivery, confirm and cash settlement
+-- every accepted delivery, confirm, cash settlement and pair-off
 pub discharge : (b : Book) (c : Call) → Sound b → refusal b c ≡ 0 → isDischarge (eventOf c) ≡ true → Discharge b c (shortOf b (eventOf c))
 unfolding shortOf amount
 discharge b (call (event.Trade t) sheet) h e s = absurd (true≢false (sym s))
@@ -56,6 +56,9 @@ discharge b (call (event.Cash c) sheet) h e s =
     let k = call (event.Cash c) sheet in
     dealt-out b k manner.Cash (c .position) e (sound-dealt b h k e)
 discharge b (call event.Close sheet) h e s = absurd (true≢false (sym s))
+discharge b (call (event.PairOff x) sheet) h e s =
+    let k = call (event.PairOff x) sheet in
+    dealt-out b k manner.Paired (x .short) e (sound-dealt b h k e)
 
 -- every accepted cash settlement
 

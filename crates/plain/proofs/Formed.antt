@@ -43,6 +43,7 @@ fresh-new day p h = λ i.
       delivered = sym (h .delivered) i;
       bought = sym (h .bought) i;
       cash = sym (h .cash) i;
+      paired = sym (h .paired) i;
       unsettled = sym (h .unsettled) i;
     }
 
@@ -77,6 +78,7 @@ done-forms b (event.Award a) es = refl
 done-forms b (event.Confirm c) es = discharge-forms (handsOut b (event.Confirm c)) (b .positions) (formed (keys (b .opening .register .count)) (b .day) (b .trades) es)
 done-forms b (event.Cash c) es = discharge-forms (handsOut b (event.Cash c)) (b .positions) (formed (keys (b .opening .register .count)) (b .day) (b .trades) es)
 done-forms b event.Close es = close-forms (b .day) (b .trades) (keys (b .opening .register .count)) (b .positions) (formed (keys (b .opening .register .count)) (suc (b .day)) [] es)
+done-forms b (event.PairOff x) es = discharge-forms (handsOut b (event.PairOff x)) (b .positions) (formed (keys (b .opening .register .count)) (b .day) (b .trades) es)
 
 pub formed-run : (b : Book) (cs : List Call) → map fresh (run b cs .positions) ≡ map fresh (b .positions) ++ formed (keys (b .opening .register .count)) (b .day) (b .trades) (acceptedEvents b cs)
 unfolding formed

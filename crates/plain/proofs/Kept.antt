@@ -67,6 +67,7 @@ done-steps P b (call (event.Award a) sheet) e s = s .kept
 done-steps P b (call (event.Confirm c) sheet) e s = s .lowers (handsOut b (event.Confirm c))
 done-steps P b (call (event.Cash c) sheet) e s = s .lowers (handsOut b (event.Cash c))
 done-steps P b (call event.Close sheet) e s = s .closed (close-taken b sheet e)
+done-steps P b (call (event.PairOff x) sheet) e s = s .lowers (handsOut b (event.PairOff x))
 
 -- WHAT IT WAS OPENED WITH
 

@@ -8,6 +8,7 @@ pub mod Exchange
 pub mod Ordered
 pub mod Cover
 pub mod AwardSteps
+pub mod Pairing
 pub mod Closing
 pub mod Steps
 pub mod Kept

@@ -215,14 +215,15 @@ pub record New (day : ℕ) (p : Position) : Type 0 where
   pub delivered : p .delivered ≡ 0
   pub bought : p .bought ≡ 0
   pub cash : p .cash ≡ 0
+  pub paired : p .paired ≡ 0
 
 pub new-whole : (day : ℕ) (p : Position) → New day p → Whole p
-new-whole day p h = omega (arith, h .unsettled, h .delivered, h .bought, h .cash)
+new-whole day p h = omega (arith, h .unsettled, h .delivered, h .bought, h .cash, h .paired)
 
 made-new : (day : ℕ) (k : Key) (short : Bool) (quantity reference : ℕ) → New day (made day k short quantity reference)
 unfolding made
 made-new day k short quantity reference =
-    record { settlement = refl; unsettled = refl; delivered = refl; bought = refl; cash = refl }
+    record { settlement = refl; unsettled = refl; delivered = refl; bought = refl; cash = refl; paired = refl }
 
 pub netted-new : (day : ℕ) (trades : List Trade) (ks : List Key) → All (New day) (netted day trades ks)
 unfolding netted

@@ -20,6 +20,7 @@ done-offered b (event.Award a) es = refl
 done-offered b (event.Confirm c) es = refl
 done-offered b (event.Cash c) es = refl
 done-offered b event.Close es = refl
+done-offered b (event.PairOff x) es = refl
 
 offered-run : (b : Book) (cs : List Call) → run b cs .auction .offers ≡ offered (b .auction .offers) (acceptedEvents b cs)
 unfolding offered

@@ -66,6 +66,7 @@ module _ (s : ℕ) (known : Within 1 SECURITIES s) where
   done-last b (call (event.Confirm c) sheet) e h es = refl
   done-last b (call (event.Cash c) sheet) e h es = refl
   done-last b (call event.Close sheet) e h es = refl
+  done-last b (call (event.PairOff x) sheet) e h es = refl
 
   last-run : (b : Book) (cs : List Call) → Fitting b → latestPrice (run b cs) s ≡ lastGiven s (b .day) (latestPrice b s) (acceptedEvents b cs)
   unfolding lastGiven

@@ -12,12 +12,12 @@ use Rattle.plain.specs.Netting.{keys, netted}
 use Rattle.plain.specs.Calls.{Call, call, discharged, handsOut, done}
 use Rattle.plain.specs.Refusals.{refusal}
 use Rattle.plain.specs.Histories.{eventOf, run}
-use Rattle.plain.proofs.Accepted.{run-keeps, attempt-taken, offer-taken, award-taken, delivery-taken, confirm-taken, cash-taken, close-taken}
+use Rattle.plain.proofs.Accepted.{run-keeps, attempt-taken, offer-taken, award-taken, delivery-taken, confirm-taken, cash-taken, close-taken, pair-off-taken}
 use Rattle.plain.specs.Invariants.{Dealt}
 use Rattle.plain.proofs.Netted.{Netting, netting}
 use Rattle.plain.proofs.Discharged.{whole-lowered, untouched-lowered, even-lowered}
 use Rattle.plain.specs.Sound.{AuctionedBook, Sound, Settled}
-use Rattle.plain.proofs.AwardSteps.{attempt-keeps, offer-keeps, award-keeps, delivery-keeps, confirm-keeps, cash-keeps, close-keeps}
+use Rattle.plain.proofs.AwardSteps.{attempt-keeps, offer-keeps, award-keeps, free-keeps, confirm-keeps, cash-keeps, close-keeps}
 use Rattle.plain.proofs.Closing.{even-closed, untouched-closed, whole-closed}
 use Rattle.plain.proofs.Standing.{new-standing, done-standing}
 use Rattle.plain.proofs.Steps.{Step, discharge, close, stay, dealt-of, step-of}
@@ -54,7 +54,7 @@ module _ (b : Book) (h : Sound b) where
   auctioned-step (call (event.Trade t) sheet) e = h .auctioned
   auctioned-step (call (event.Price p) sheet) e = h .auctioned
   auctioned-step (call (event.Delivery d) sheet) e =
-      delivery-keeps b d (handsOut b (event.Delivery d)) manner.Delivered (delivery-taken b d sheet e) (sound-dealt (call (event.Delivery d) sheet) e) (h .auctioned)
+      free-keeps b (d .position) (d .quantity) (handsOut b (event.Delivery d)) manner.Delivered (delivery-taken b d sheet e .enough) (sound-dealt (call (event.Delivery d) sheet) e) (h .auctioned)
   auctioned-step (call (event.Attempt a) sheet) e =
       let security = positionOf b (a .position) .security in
       attempt-keeps b a (ceiling (classOf b security) (latestOf b security)) (attempt-taken b a sheet e) (h .auctioned)
@@ -66,6 +66,8 @@ module _ (b : Book) (h : Sound b) where
       cash-keeps b c (handsOut b (event.Cash c)) manner.Cash (positionOf b (c .position) .unsettled) (cash-taken b c sheet e) (omega arith) (sound-dealt (call (event.Cash c) sheet) e) (h .auctioned)
   auctioned-step (call event.Close sheet) e =
       close-keeps (b .opening .register) _ _ (b .auction) (close-taken b sheet e .quiet) (h .auctioned .offers-fit) (h .auctioned .few-offers)
+  auctioned-step (call (event.PairOff x) sheet) e =
+      free-keeps b (x .short) (x .quantity) (handsOut b (event.PairOff x)) manner.Paired (pair-off-taken b x sheet e .enough) (sound-dealt (call (event.PairOff x) sheet) e) (h .auctioned)
 
 pub done-sound : (b : Book) (c : Call) → refusal b c ≡ 0 → Sound b → Sound (done b (eventOf c))
 done-sound b c e h =

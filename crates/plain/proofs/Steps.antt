@@ -12,11 +12,12 @@ use Rattle.plain.specs.Dealing.{lowering}
 use Rattle.plain.specs.Calls.{Call, call, dealt, discharged, handsOut, amount, done}
 use Rattle.plain.specs.Refusals.{refusal}
 use Rattle.plain.specs.Histories.{eventOf}
-use Rattle.plain.proofs.Accepted.{delivery-taken, confirm-taken, cash-taken}
+use Rattle.plain.proofs.Accepted.{delivery-taken, confirm-taken, cash-taken, pair-off-taken}
 use Rattle.plain.specs.Invariants.{Even, Deals, Dealt}
 use Rattle.plain.proofs.Dealt.{deals, deals-priced}
 use Rattle.plain.specs.Sound.{AuctionedBook}
 use Rattle.plain.proofs.AwardSteps.{delivery-dealable, confirm-dealable, cash-dealable}
+use Rattle.plain.proofs.Pairing.{pair-deals}
 
 pub data Step (b : Book) (e : Event) : Type 0 where
   discharge : {m : Manner} {n q : ℕ} → Deals b m n q (handsOut b e) → amount b e ≡ q → done b e .positions ≡ lowering (handsOut b e) (b .positions) → done b e .day ≡ b .day → Step b e
@@ -42,6 +43,7 @@ module _ (b : Book) (even : Even (b .day) (b .positions)) (auctioned : Auctioned
       deals-priced b manner.Cash (c .position) q _ (dealt b manner.Cash (c .position) q)
       (deals b manner.Cash (c .position) q even (cash-dealable b c (cash-taken b c sheet e)))
   dealt-of (call event.Close sheet) e = tt
+  dealt-of (call (event.PairOff x) sheet) e = pair-deals b x (pair-off-taken b x sheet e)
 
   pub step-of : (c : Call) → refusal b c ≡ 0 → Step b (eventOf c)
   unfolding handsOut amount done discharged
@@ -54,3 +56,4 @@ module _ (b : Book) (even : Even (b .day) (b .positions)) (auctioned : Auctioned
   step-of (call (event.Confirm c) sheet) e = discharge (dealt-of (call (event.Confirm c) sheet) e) refl refl refl
   step-of (call (event.Cash c) sheet) e = discharge (dealt-of (call (event.Cash c) sheet) e) refl refl refl
   step-of (call event.Close sheet) e = close refl refl refl
+  step-of (call (event.PairOff x) sheet) e = discharge (dealt-of (call (event.PairOff x) sheet) e) refl refl refl

@@ -18,7 +18,7 @@ use Rattle.events.specs.declared.Event.{Event}
 use Rattle.plain.specs.declared.Position.{Position}
 use Rattle.plain.specs.declared.Piece.{Piece}
 use Rattle.plain.specs.declared.Manner.{Manner}
-use Rattle.plain.specs.declared.Manner.the-variants.{Delivered, BoughtIn, Cash}
+use Rattle.plain.specs.declared.Manner.the-variants.{Delivered, BoughtIn, Cash, Paired}
 use Rattle.plain.specs.Book.{Book, new, noPosition}
 use Rattle.plain.specs.Netting.{keys, netted}
 use Rattle.plain.specs.Dealing.{manners, figure, mannerNumber, names, takenBy, lowered, lowering}
@@ -37,17 +37,20 @@ figure-none : (w : Manner) → figure w noPosition ≡ 0
 figure-none Delivered = refl
 figure-none BoughtIn = refl
 figure-none Cash = refl
+figure-none Paired = refl
 
 figure-new : (w : Manner) (day : ℕ) (p : Position) → New day p → figure w p ≡ 0
 figure-new Delivered day p n = n .delivered
 figure-new BoughtIn day p n = n .bought
 figure-new Cash day p n = n .cash
+figure-new Paired day p n = n .paired
 
 figure-lowered : (w : Manner) (xs : List Piece) (n : ℕ) (p : Position) → figure w (lowered xs n p) ≡ figure w p + takenBy w n xs
 unfolding lowered
 figure-lowered Delivered xs n p = refl
 figure-lowered BoughtIn xs n p = refl
 figure-lowered Cash xs n p = refl
+figure-lowered Paired xs n p = refl
 
 taken-none : (w : Manner) (n : ℕ) → takenBy w n [] ≡ 0
 unfolding takenBy
@@ -116,7 +119,7 @@ module _ (w : Manner) (i : ℕ) where
         taken-append w (suc i) (pieces b c) (handed (next b c) cs),
       )
 
--- Document 01: netted is delivered, bought in, settled in cash and open, the first three summed over all pieces handed out, by manner
+-- netted is delivered, bought in, settled in cash, paired off and open, the first four summed over all pieces handed out, by manner
 pub tally : (opening : Opening) (cs : List Call) (i : ℕ) → i < length (run (new opening) cs .positions)
     → getD (run (new opening) cs .positions) i noPosition .netted
     ≡ sum (λ m. takenBy m (suc i) (handed (new opening) cs)) manners + getD (run (new opening) cs .positions) i noPosition .unsettled
@@ -131,4 +134,5 @@ tally opening cs i h =
       run-figure Delivered i b cs n,
       run-figure BoughtIn i b cs n,
       run-figure Cash i b cs n,
+      run-figure Paired i b cs n,
     )

@@ -90,6 +90,7 @@ noPosition =
       delivered = 0;
       bought = 0;
       cash = 0;
+      paired = 0;
       unsettled = 0;
     }
 

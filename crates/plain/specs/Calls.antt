@@ -1,16 +1,17 @@
--- Document 01, 'The plain book': what each of the nine calls does where it is accepted.
+-- Document 01, 'The plain book', and document 02, Slip 7: what each of the ten calls does where it is accepted.
 use Prim.Native.Nat.{ℕ, suc, _+_, _-_}
 use mathlib.Core.List.{List, [], _∷_, _++_, map}
 use mathlib.Core.Bool.{Bool, true, false}
 use lib.ListN.{length, set}
 use Rattle.laws.specs.Lists.{sum, number}
 use Rattle.rules.specs.Prices.{ceiling}
+use Rattle.events.specs.declared.PairOff.{PairOff}
 use Rattle.events.specs.declared.Event.{Event}
 use Rattle.events.specs.declared.Event.the-variants as event
 use Rattle.plain.specs.declared.Piece.{Piece}
 use Rattle.plain.specs.declared.Award.{Award}
 use Rattle.plain.specs.declared.Manner.{Manner}
-use Rattle.plain.specs.declared.Manner.the-variants.{Delivered, BoughtIn, Cash}
+use Rattle.plain.specs.declared.Manner.the-variants.{Delivered, BoughtIn, Cash, Paired}
 use Rattle.plain.specs.Book.{Book, noAuction, givenOn, positionOf, awardOf, classOf, latestOf}
 use Rattle.plain.specs.Changing.{withDay, withPast, withTrades, withPrices, withPositions, withAuction, withAwards, withMarks, withLedger}
 use Rattle.plain.specs.Netting.{keys, netted}
@@ -18,13 +19,17 @@ use Rattle.plain.specs.Dealing.{takers, dealTo, lowering}
 use Rattle.plain.specs.Auction.{byPrice, awarded, confirmedAward}
 use Rattle.plain.specs.Charging.{Charge, posted, buyInCharges, settlementPrice, pricedAt, cashCharges, closeCharges}
 
--- One of the nine calls: what an event says, with the length of the sheet that is lent. "of a sheet, its length"
+-- One of the ten calls: what an event says, with the length of the sheet that is lent. "of a sheet, its length"
 pub data Call : Type 0 where
   call : Event → ℕ → Call
 
 -- the pieces of a quantity of a short, dealt out by the rules over this book's open quantities
 unfoldable pub dealt : Book → Manner → ℕ → ℕ → List Piece
 dealt b manner n quantity = dealTo manner n (takers (b .day) (positionOf b n .security) (b .positions)) quantity
+
+-- document 02, Slip 7: "one piece of manner paired and 0 cents is handed out"
+abbrev pub pairedPiece : PairOff → Piece
+pairedPiece x = record { short = x .short; long = x .long; quantity = x .quantity; manner = Paired; cents = 0 }
 
 -- "A discharge (delivery, confirm, cash) deals its quantity .. out by the rules above over this book's open quantities, which fall by each piece on both sides, and books its charges"
 unfoldable pub discharged : Book → List Piece → List Charge → Book
@@ -49,6 +54,7 @@ handsOut b (event.Cash c) =
     let xs = dealt b Cash (c .position) (positionOf b (c .position) .unsettled) in
     map (pricedAt (settlementPrice b (c .position) xs)) xs
 handsOut b event.Close = []
+handsOut b (event.PairOff x) = pairedPiece x ∷ []
 
 -- the charges that an accepted call books
 unfoldable pub charges : Book → Event → List Charge
@@ -61,8 +67,10 @@ charges b (event.Award a) = []
 charges b (event.Confirm c) = buyInCharges b (awardOf b (c .award))
 charges b (event.Cash c) = cashCharges b (c .position) (handsOut b (event.Cash c))
 charges b event.Close = closeCharges b
+charges b (event.PairOff x) = []
 
--- document 01, 'The player': "quantity (trade, offer, delivery: its own; confirm: the award's; cash: what was open; award: total awarded; attempt, price, close, refused: 0)"
+-- document 01, 'The player': "quantity (trade, offer, delivery: its own; confirm: the award's; cash: what was open; award: total awarded; attempt, price, close, refused: 0)"; "The reported
+-- quantity is the event's own." (document 02, Slip 7)
 unfoldable pub amount : Book → Event → ℕ
 amount b (event.Trade t) = t .quantity
 amount b (event.Price p) = 0
@@ -73,8 +81,10 @@ amount b (event.Award a) = sum (λ x. x .quantity) (auctionAwards b)
 amount b (event.Confirm c) = awardOf b (c .award) .quantity
 amount b (event.Cash c) = positionOf b (c .position) .unsettled
 amount b event.Close = 0
+amount b (event.PairOff x) = x .quantity
 
 -- "A trade, offer or price is added. An attempt sets its mark and starts an auction, an award ends it in awards."; "a confirmed award is marked. A close does all under Close."
+-- Of a pair-off "Both fall by the quantity" (document 02, Slip 7), by its one piece.
 unfoldable pub done : Book → Event → Book
 done b (event.Trade t) = withTrades b (b .trades ++ t ∷ [])
 done b (event.Price p) = withPrices b (set (b .prices) (p .security - 1) (givenOn (b .day) (p .price)))
@@ -96,8 +106,10 @@ done b event.Close =
     let made = netted (b .day) (b .trades) (keys (b .opening .register .count)) in
     let netted' = withTrades (withPast (withPositions fined (b .positions ++ made)) (b .past + length (b .trades))) [] in
     withDay (withMarks (withAwards netted' []) []) (suc (b .day))
+done b (event.PairOff x) = discharged b (handsOut b (event.PairOff x)) (charges b (event.PairOff x))
 
--- "A discharge (delivery, confirm, cash)": the events whose calls have a sheet
+-- "A discharge (delivery, confirm, cash)", and a pair-off "as a discharge with that one piece" (document 02, Slip 7): the events whose calls have
+-- a sheet
 abbrev pub isDischarge : Event → Bool
 isDischarge (event.Trade t) = false
 isDischarge (event.Price p) = false
@@ -108,6 +120,7 @@ isDischarge (event.Award a) = false
 isDischarge (event.Confirm c) = true
 isDischarge (event.Cash c) = true
 isDischarge event.Close = false
+isDischarge (event.PairOff x) = true
 
 -- the short that a discharge discharges; 0 for an event that is none
 unfoldable pub shortOf : Book → Event → ℕ
@@ -120,3 +133,4 @@ shortOf b (event.Award a) = 0
 shortOf b (event.Confirm c) = awardOf b (c .award) .position
 shortOf b (event.Cash c) = c .position
 shortOf b event.Close = 0
+shortOf b (event.PairOff x) = x .short

@@ -2,7 +2,7 @@
 use Prim.Native.Nat.{ℕ, suc, _+_, _-_, _*_, _≤_, _<_}
 use mathlib.Core.Path.{_≡_}
 use mathlib.Core.Logic.{_≢_}
-use mathlib.Core.List.{List, [], map}
+use mathlib.Core.List.{List, [], _∷_, map}
 use mathlib.Core.Bool.{Bool, true, not, _&&_}
 use lib.ListN.{length, getD}
 use lib.IntN.{pos, subℕ, _+ℤ_}
@@ -14,6 +14,7 @@ use Rattle.laws.specs.Integers.{sumℤ}
 use Rattle.events.specs.declared.Trade.{Trade}
 use Rattle.events.specs.declared.Award as asked
 use Rattle.events.specs.declared.Cash.{Cash}
+use Rattle.events.specs.declared.PairOff.{PairOff}
 use Rattle.events.specs.declared.Event.the-variants as event
 use Rattle.plain.specs.declared.Opening.{Opening}
 use Rattle.plain.specs.declared.Kind.{Kind}
@@ -23,7 +24,7 @@ use Rattle.plain.specs.Book.{Book, new, noPosition, positionOf, latestPr
 use Rattle.plain.specs.Netting.{kindNumber}
 use Rattle.plain.specs.Dealing.{manners, takenBy, fresh}
 use Rattle.plain.specs.Charging.{creditOf, debitOf, settlementTerms}
-use Rattle.plain.specs.Calls.{Call, isDischarge, shortOf}
+use Rattle.plain.specs.Calls.{Call, pairedPiece, isDischarge, shortOf}
 use Rattle.plain.specs.Refusals.{refusal}
 use Rattle.plain.specs.Histories.{eventOf, next, pieces, quantity, charged, run, handed, allCharges, acceptedEvents, formedBy, tradesOn, latestBy, offersBy, balance}
 use Rattle.plain.specs.Cover.{added, Covered, PaysLeast, Confirmed, confirmationsOf}
@@ -48,6 +49,22 @@ pub record OnePrice (b : Book) (n : ℕ) (xs : List Piece) : Type 0 where
   -- no term of the rule exceeds it, and it is one of them
   pub most : All (λ term. term ≤ price) (settlementTerms b n xs)
   pub among : some (λ term. eqb term price) (settlementTerms b n xs) ≡ true
+
+-- document 02, Slip 7: "Both fall by the quantity, one piece of manner paired and 0 cents is handed out": what a pair-off makes of a book, and its pieces
+pub record SetOff (b after : Book) (x : PairOff) (xs : List Piece) : Type 0 where
+  -- both are there, and no position comes or goes
+  pub short-held : Within 1 (length (b .positions)) (x .short)
+  pub long-held : Within 1 (length (b .positions)) (x .long)
+  pub many : length (after .positions) ≡ length (b .positions)
+  pub piece : xs ≡ pairedPiece x ∷ []
+  -- the two sides are one member's, in business of one kind
+  pub member : positionOf b (x .long) .member ≡ positionOf b (x .short) .member
+  pub kind : positionOf b (x .long) .kind ≡ positionOf b (x .short) .kind
+  -- both fall
+  pub short-falls : positionOf after (x .short) .unsettled + x .quantity ≡ positionOf b (x .short) .unsettled
+  pub long-falls : positionOf after (x .long) .unsettled + x .quantity ≡ positionOf b (x .long) .unsettled
+  -- nothing is paid
+  pub unpaid : after .ledger ≡ b .ledger
 
 -- "Demand 3 works out the netted quantity by kind too" (document 02, Slip 5): the units that a member sold, and bought, of a security in business of
 -- the kind with that number
@@ -86,7 +103,8 @@ pub record Claim (opening : Opening) (cs : List Call) : Type 0 where
   -- and so is the netted quantity of each member's business of each kind in each security, by the trades of the day alone
   pub by-kind : (member security d : ℕ) (kind : Kind) → Within 1 MEMBERS member → Within 1 (opening .register .count) security
       → NettedByKind member (kindNumber kind) security d (tradesOn opening (acceptedEvents (new opening) cs) d) (run (new opening) cs .positions)
-  -- a position's netted quantity is what was delivered, bought in and settled in cash, summed over all pieces handed out in the list, by manner, and what is open
+  -- a position's netted quantity is what was delivered, bought in, settled in cash and paired off, summed over all pieces handed out in the list, by manner, and what
+  -- is open: "A position's netted quantity then has five terms" (document 02, Slip 7)
   pub tallied : (i : ℕ) → i < length (run (new opening) cs .positions)
       → getD (run (new opening) cs .positions) i noPosition .netted
       ≡ sum (λ m. takenBy m (suc i) (handed (new opening) cs)) manners + getD (run (new opening) cs .positions) i noPosition .unsettled
@@ -116,6 +134,9 @@ pub record Claim (opening : Opening) (cs : List Call) : Type 0 where
   -- a next call that is a cash settlement and is accepted has one price for all its pieces
   pub one-price : (c : Call) (s : Cash) → refusal (run (new opening) cs) c ≡ 0 → eventOf c ≡ event.Cash s
       → OnePrice (run (new opening) cs) (s .position) (pieces (run (new opening) cs) c)
+  -- a next call that is a pair-off and is accepted sets off a short and a long of one member and kind against each other
+  pub pairs-off : (c : Call) (x : PairOff) → refusal (run (new opening) cs) c ≡ 0 → eventOf c ≡ event.PairOff x
+      → SetOff (run (new opening) cs) (next (run (new opening) cs) c) x (pieces (run (new opening) cs) c)
   -- the offers of the running auction, in order of arrival, are worked out from the accepted attempts, offers and awards of the list alone
   pub offers : run (new opening) cs .auction .offers ≡ offersBy (acceptedEvents (new opening) cs)
   -- a next call that is an award and is accepted makes awards that are the cheapest cover of its short, and reports their units

@@ -106,6 +106,7 @@ confirmsOneOf first many (event.Award a) = false
 confirmsOneOf first many (event.Confirm c) = within (suc first) (first + many) (c .award)
 confirmsOneOf first many (event.Cash c) = false
 confirmsOneOf first many event.Close = false
+confirmsOneOf first many (event.PairOff x) = false
 
 -- the charges that calls on a book booked by confirming these awards
 unfoldable pub confirmationCharges : ℕ → ℕ → Book → List Call → List Charge

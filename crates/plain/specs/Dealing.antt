@@ -7,23 +7,25 @@ use Rattle.laws.specs.Lists.{only, keep, sum, each, range, number}
 use Rattle.plain.specs.declared.Position.{Position}
 use Rattle.plain.specs.declared.Piece.{Piece}
 use Rattle.plain.specs.declared.Manner.{Manner}
-use Rattle.plain.specs.declared.Manner.the-variants.{Delivered, BoughtIn, Cash}
+use Rattle.plain.specs.declared.Manner.the-variants.{Delivered, BoughtIn, Cash, Paired}
 
--- the number of a manner: 1 delivered, 2 bought in, 3 cash
+-- the number of a manner: 1 delivered, 2 bought in, 3 cash, 4 paired (document 02, Slip 7)
 abbrev pub mannerNumber : Manner → ℕ
 mannerNumber Delivered = 1
 mannerNumber BoughtIn = 2
 mannerNumber Cash = 3
+mannerNumber Paired = 4
 
 -- the manners in which a position is discharged
 abbrev pub manners : List Manner
-manners = Delivered ∷ BoughtIn ∷ Cash ∷ []
+manners = Delivered ∷ BoughtIn ∷ Cash ∷ Paired ∷ []
 
 -- the figure of a position that a manner raises
 abbrev pub figure : Manner → Position → ℕ
 figure Delivered p = p .delivered
 figure BoughtIn p = p .bought
 figure Cash p = p .cash
+figure Paired p = p .paired
 
 -- a position with other figures: what is discharged of it in each manner, and what is open
 abbrev pub withFigures : Position → (Manner → ℕ) → ℕ → Position
@@ -39,6 +41,7 @@ withFigures p discharged left =
       delivered = discharged Delivered;
       bought = discharged BoughtIn;
       cash = discharged Cash;
+      paired = discharged Paired;
       unsettled = left;
     }
 

@@ -86,6 +86,7 @@ formed ks day trades (event.Award a ∷ es) = formed ks day trades es
 formed ks day trades (event.Confirm c ∷ es) = formed ks day trades es
 formed ks day trades (event.Cash c ∷ es) = formed ks day trades es
 formed ks day trades (event.Close ∷ es) = netted day trades ks ++ formed ks (suc day) [] es
+formed ks day trades (event.PairOff x ∷ es) = formed ks day trades es
 
 -- those that they make of a new book
 abbrev pub formedBy : Opening → List Event → List Position
@@ -105,6 +106,7 @@ tradedOn d day trades (event.Cash c ∷ es) = tradedOn d day trades es
 tradedOn d day trades (event.Close ∷ es) =
     let later = tradedOn d (suc day) [] es in
     cond (eqb day d) trades later
+tradedOn d day trades (event.PairOff x ∷ es) = tradedOn d day trades es
 
 -- those of a new book
 abbrev pub tradesOn : Opening → List Event → ℕ → List Trade
@@ -124,6 +126,7 @@ lastGiven security day latest (event.Award a ∷ es) = lastGiven security day la
 lastGiven security day latest (event.Confirm c ∷ es) = lastGiven security day latest es
 lastGiven security day latest (event.Cash c ∷ es) = lastGiven security day latest es
 lastGiven security day latest (event.Close ∷ es) = lastGiven security (suc day) latest es
+lastGiven security day latest (event.PairOff x ∷ es) = lastGiven security day latest es
 
 -- that which they make of a new book
 abbrev pub latestBy : Opening → List Event → ℕ → LatestPrice
@@ -141,6 +144,7 @@ offered offers (event.Award a ∷ es) = offered [] es
 offered offers (event.Confirm c ∷ es) = offered offers es
 offered offers (event.Cash c ∷ es) = offered offers es
 offered offers (event.Close ∷ es) = offered offers es
+offered offers (event.PairOff x ∷ es) = offered offers es
 
 -- those that they make of a new book
 abbrev pub offersBy : List Event → List Offer

@@ -19,7 +19,7 @@ use Rattle.plain.specs.declared.Position.{Position}
 use Rattle.plain.specs.declared.Piece.{Piece}
 use Rattle.plain.specs.declared.Award.{Award}
 use Rattle.plain.specs.declared.Manner.{Manner}
-use Rattle.plain.specs.declared.Manner.the-variants.{Delivered, BoughtIn, Cash}
+use Rattle.plain.specs.declared.Manner.the-variants.{Delivered, BoughtIn, Cash, Paired}
 use Rattle.plain.specs.Book.{Book, Auction, givenOn, noPosition, positionOf, awardOf, latestOf, latestPrice}
 use Rattle.plain.specs.Netting.{Key, kindNumber}
 use Rattle.plain.specs.Dealing.{manners, figure, due, longOf}
@@ -130,6 +130,7 @@ Dealt b (event.Award a) = Unit {0}
 Dealt b (event.Confirm c) = Deals b BoughtIn (awardOf b (c .award) .position) (awardOf b (c .award) .quantity) (handsOut b (event.Confirm c))
 Dealt b (event.Cash c) = Deals b Cash (c .position) (positionOf b (c .position) .unsettled) (handsOut b (event.Cash c))
 Dealt b event.Close = Unit {0}
+Dealt b (event.PairOff x) = Deals b Paired (x .short) (x .quantity) (handsOut b (event.PairOff x))
 
 -- the auction's offers and the awards
 pub record OfferFits (auction : Auction) (o : Offer) : Type 0 where

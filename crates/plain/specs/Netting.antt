@@ -74,6 +74,7 @@ made day k short quantity reference =
       delivered = 0;
       bought = 0;
       cash = 0;
+      paired = 0;
       unsettled = quantity;
     }
 

@@ -1,4 +1,4 @@
--- Document 01, 'Why a call is turned down', 8 to 26, and document 02, 32 and 33: each reason over the values that it looks at, the reasons of each call
+-- Document 01, 'Why a call is turned down', 8 to 26, and document 02, 32 to 34: each reason over the values that it looks at, the reasons of each call
 -- in the order of the papers' list, and what they say on the plain book. A reason is named after what turns the call down.
 use Prim.Native.Nat.{ℕ, _+_, _-_}
 use mathlib.Core.List.{List, [], _∷_, _++_}
@@ -16,6 +16,7 @@ use Rattle.events.specs.declared.Trade.{Trade}
 use Rattle.events.specs.declared.Price.{Price}
 use Rattle.events.specs.declared.Delivery.{Delivery}
 use Rattle.events.specs.declared.Offer.{Offer}
+use Rattle.events.specs.declared.PairOff.{PairOff}
 use Rattle.events.specs.declared.Event.the-variants as event
 use Rattle.plain.specs.declared.LatestPrice.{LatestPrice}
 use Rattle.plain.specs.declared.LatestPrice.the-variants.{Never, Given}
@@ -30,7 +31,8 @@ use Rattle.plain.specs.Calls.{Call, call}
 
 -- The reasons
 
--- 8. "The sheet has under 1,024 places (delivery, confirm, cash)."
+-- 8. "The sheet has under 1,024 places (delivery, confirm, cash)." And of a pair-off: "Refusals 8, 11, 12, 16 to 18 and 24 apply as in a delivery, 11
+-- also to the long and 24 also to the long's open quantity." (document 02, Slip 7)
 abbrev pub smallSheet : ℕ → Reason
 smallSheet sheet = ltb sheet PLACES ⇒ 8
 
@@ -46,11 +48,11 @@ abbrev pub notRegistered : ℕ → ℕ → Reason
 notRegistered securities security = not (within 1 securities security) ⇒ 10
 
 -- 11. "The position, or today's award, is not there." Of a delivery, an attempt, an offer, an award and a cash settlement the position, of a
--- confirmation the award: number n of those held.
+-- confirmation the award, of a pair-off both positions: number n of those held.
 abbrev pub notThere : ℕ → ℕ → Reason
 notThere held n = not (within 1 held n) ⇒ 11
 
--- 12. "The quantity is 0, or in a trade or offer above 1,000,000." Besides these two of a delivery.
+-- 12. "The quantity is 0, or in a trade or offer above 1,000,000." Besides these two of a delivery and a pair-off.
 abbrev pub isQuantity : ℕ → Bool
 isQuantity quantity = within 1 MOST-QUANTITY quantity
 
@@ -88,19 +90,33 @@ wrongKind t = not (hasKinds t) ⇒ 33
 abbrev pub tradesFull : ℕ → Reason
 tradesFull held = leb TRADES held ⇒ 15
 
--- 16. "The position is long (delivery, attempt, cash)."
+-- 16. "The position is long (delivery, attempt, cash)." Of a pair-off its first position.
 abbrev pub isLong : Position → Reason
 isLong p = not (p .short) ⇒ 16
 
--- 17. "Today is outside the step's window." Of an attempt and a cash settlement, by the step that today allows; and of a delivery, by its day.
+-- 17. "Today is outside the step's window." Of an attempt and a cash settlement, by the step that today allows; and of a delivery and a pair-off,
+-- by its day.
 abbrev pub outsideWindow : Step → Step → Reason
 outsideWindow asked today = not (eqb (stepKind today) (stepKind asked)) ⇒ 17
 
 abbrev pub notDue : ℕ → Position → Reason
 notDue day p = not (due day p) ⇒ 17
 
--- 18. "An auction runs (attempt, close), runs on this short (delivery), or doesn't run on this position (offer, award)." Of the position that
--- it is on, 0 where none runs.
+-- 34. "It refuses with 34, after 17, a second position that is not a due long of the same member, kind and security." (document 02, Slip 7) Of a
+-- pair-off: whether its short p can be set off against its second position q.
+abbrev pub isPairable : ℕ → Position → Position → Bool
+isPairable day p q =
+    not (q .short)
+    && due day q
+    && eqb (q .member) (p .member)
+    && eqb (kindNumber (q .kind)) (kindNumber (p .kind))
+    && eqb (q .security) (p .security)
+
+abbrev pub notPairable : ℕ → Position → Position → Reason
+notPairable day p q = not (isPairable day p q) ⇒ 34
+
+-- 18. "An auction runs (attempt, close), runs on this short (delivery), or doesn't run on this position (offer, award)." Of a pair-off as of a
+-- delivery. Of the position that it is on, 0 where none runs.
 abbrev pub runsOn : ℕ → ℕ → Bool
 runsOn auction n = ltb 0 auction && eqb auction n
 
@@ -148,9 +164,12 @@ aboveCeiling ceiling price = ltb ceiling price ⇒ 22
 abbrev pub offersFull : ℕ → Reason
 offersFull offers = leb OFFERS offers ⇒ 23
 
--- 24. "Delivery exceeds free, or open is 0 (attempt, cash)."
+-- 24. "Delivery exceeds free, or open is 0 (attempt, cash)." And a pair-off exceeds its short's free, or its long's open quantity.
 abbrev pub aboveFree : ℕ → ℕ → Reason
 aboveFree free quantity = ltb free quantity ⇒ 24
+
+abbrev pub aboveOpen : Position → ℕ → Reason
+aboveOpen p quantity = ltb (p .unsettled) quantity ⇒ 24
 
 abbrev pub nothingOpen : Position → Reason
 nothingOpen p = eqb (p .unsettled) 0 ⇒ 24
@@ -194,6 +213,22 @@ deliveryReasons p day auction free d =
     ∷ notDue day p
     ∷ auctionOnThis auction (d .position)
     ∷ aboveFree free (d .quantity)
+    ∷ []
+
+-- a pair-off's, before its positions are looked at: of the sheet's length, how many positions there are, and the numbers of both
+unfoldable pub bothLookupReasons : ℕ → ℕ → ℕ → ℕ → List Reason
+bothLookupReasons sheet held short long = smallSheet sheet ∷ notThere held short ∷ notThere held long ∷ []
+
+-- and after them: of its short and its long, the day, the auction's position, what is free of the short, and the pair-off
+unfoldable pub pairOffReasons : Position → Position → ℕ → ℕ → ℕ → PairOff → List Reason
+pairOffReasons p q day auction free x =
+    noQuantity (x .quantity)
+    ∷ isLong p
+    ∷ notDue day p
+    ∷ notPairable day p q
+    ∷ auctionOnThis auction (x .short)
+    ∷ aboveFree free (x .quantity)
+    ∷ aboveOpen q (x .quantity)
     ∷ []
 
 -- a confirmation's after them: of its award
@@ -258,7 +293,7 @@ free b n = positionOf b n .unsettled - unconfirmed n (b .awards)
 
 -- Unfolding this unfolds the lists too.
 unfoldable pub reasons : Book → Call → List Reason
-unfolding tradeReasons priceReasons lookupReasons deliveryReasons confirmReasons cashReasons attemptReasons offerReasons auctionReasons awardReasons closeReasons
+unfolding tradeReasons priceReasons lookupReasons deliveryReasons bothLookupReasons pairOffReasons confirmReasons cashReasons attemptReasons offerReasons auctionReasons awardReasons closeReasons
 reasons b (call (event.Trade t) sheet) = tradeReasons (b .opening .register .count) (b .past + length (b .trades)) t
 reasons b (call (event.Price p) sheet) = priceReasons (b .opening .register .count) p
 reasons b (call (event.Delivery d) sheet) =
@@ -280,6 +315,9 @@ reasons b (call (event.Cash c) sheet) =
     lookupReasons sheet (length (b .positions)) (c .position)
     ++ cashReasons p (b .day) (stepToday b p) (latestPrice b (p .security))
 reasons b (call event.Close sheet) = closeReasons (b .auction .position) (b .day)
+reasons b (call (event.PairOff x) sheet) =
+    bothLookupReasons sheet (length (b .positions)) (x .short) (x .long)
+    ++ pairOffReasons (positionOf b (x .short)) (positionOf b (x .long)) (b .day) (b .auction .position) (free b (x .short)) x
 
 -- the number of the first reason that applies, else 0
 unfoldable pub refusal : Book → Call → ℕ

@@ -28,7 +28,7 @@ use Rattle.plain.specs.Book.{Book, givenOn, latestPrice}
 use Rattle.plain.specs.Netting.{kindNumber}
 use Rattle.plain.specs.Histories.{run, handed, allCharges, refusals, quantities, balance, computing}
 use Rattle.plain.specs.Cover.{cost}
-use Rattle.plain.specs.Worked.{xx, oneShareBytes, oneShare, twoSharesBytes, twoShares, squeeze, example, twoDays, oldPrices, allDelivered, twoLongs, fourLongs, bothKinds, failingByKind, auctionOf, awardOf, onePriceTwice, lastInPart, tooFewOffers}
+use Rattle.plain.specs.Worked.{xx, oneShareBytes, oneShare, twoSharesBytes, twoShares, squeeze, example, twoDays, oldPrices, allDelivered, twoLongs, fourLongs, bothKinds, failingByKind, auctionOf, awardOf, onePriceTwice, lastInPart, tooFewOffers, pairedOff, pairedBesideAwards, freedByPairOff}
 
 -- a row: a value by the definitions, and the value expected
 pub record Row : Type 1 where
@@ -52,9 +52,9 @@ piece short long quantity manner cents =
 abbrev awardLine : Award → List ℕ
 awardLine a = a .offerer ∷ a .quantity ∷ a .price ∷ []
 
--- the figures of a position's line: netted, delivered, bought in, cash, open
+-- the figures of a position's line: netted, delivered, bought in, cash, paired, open
 abbrev figures : Position → List ℕ
-figures p = p .netted ∷ p .delivered ∷ p .bought ∷ p .cash ∷ p .unsettled ∷ []
+figures p = p .netted ∷ p .delivered ∷ p .bought ∷ p .cash ∷ p .paired ∷ p .unsettled ∷ []
 
 -- what netting says of a position: its member, the number of its kind, its security, 1 for a short, netted, reference price
 abbrev holding : Position → List ℕ
@@ -110,7 +110,7 @@ table =
     ∷ (refusals oneShare example is (0 ∷ 0 ∷ 0 ∷ 0 ∷ []))
     ∷ (quantities oneShare example is (100 ∷ 0 ∷ 0 ∷ 100 ∷ []))
     ∷ (handed oneShare example is (piece 1 2 100 manner.Delivered 0 ∷ []))
-    ∷ (map figures (delivered .positions) is ((100 ∷ 100 ∷ 0 ∷ 0 ∷ 0 ∷ []) ∷ (100 ∷ 100 ∷ 0 ∷ 0 ∷ 0 ∷ []) ∷ []))
+    ∷ (map figures (delivered .positions) is ((100 ∷ 100 ∷ 0 ∷ 0 ∷ 0 ∷ 0 ∷ []) ∷ (100 ∷ 100 ∷ 0 ∷ 0 ∷ 0 ∷ 0 ∷ []) ∷ []))
     ∷ (map (balance delivered) (range 0 ACCOUNTS) is replicate ACCOUNTS (pos 0))
     -- "lowest S first, then lowest number", over two delivery days
     ∷ (refusals oneShare twoDays is replicate 7 0)
@@ -170,13 +170,48 @@ table =
     -- "No way takes more, within the short's open quantity.": too few offers, all of them taken whole; confirmed, they leave 30 open
     ∷ (map awardLine (run oneShare (awardOf tooFewOffers []) .awards) is ((5 ∷ 20 ∷ 1100 ∷ []) ∷ (4 ∷ 10 ∷ 1300 ∷ []) ∷ []))
     ∷ (map figures (run oneShare (awardOf tooFewOffers (1 ∷ 2 ∷ [])) .positions)
-    is ((60 ∷ 0 ∷ 30 ∷ 0 ∷ 30 ∷ []) ∷ (60 ∷ 0 ∷ 30 ∷ 0 ∷ 30 ∷ []) ∷ []))
+    is ((60 ∷ 0 ∷ 30 ∷ 0 ∷ 0 ∷ 30 ∷ []) ∷ (60 ∷ 0 ∷ 30 ∷ 0 ∷ 0 ∷ 30 ∷ []) ∷ []))
     -- no offer: a total of 0
     ∷ (map awardLine (run oneShare (awardOf [] []) .awards) is [])
     ∷ (refusals oneShare (awardOf [] []) is replicate 11 0)
     ∷ (quantities oneShare (awardOf [] []) is (60 ∷ replicate 10 0))
+    -- "It refuses with 34, after 17, a second position that is not a due long of the same member, kind and security.": not due (and 17, where the short is
+    -- not due either), the clients', another member's, a short, the same; 16 for a long as the first; 11 for the second, by its whole number, and for either
+    -- before 12; 12 before 16; 24 for the long's open quantity
+    ∷ (refusals oneShare pairedOff
+    is (replicate 5 0 ++ 34 ∷ 17 ∷ 0 ∷ 34 ∷ 34 ∷ 34 ∷ 34 ∷ 16 ∷ 11 ∷ 11 ∷ 11 ∷ 12 ∷ 12 ∷ 24 ∷ 0 ∷ 24 ∷ 0 ∷ 0 ∷ []))
+    ∷ (quantities oneShare pairedOff is (100 ∷ 0 ∷ 60 ∷ 10 ∷ replicate 15 0 ++ 40 ∷ 0 ∷ 70 ∷ 60 ∷ []))
+    -- "one piece of manner paired and 0 cents"; the deliveries after it find 20 open of position 3
+    ∷ (handed oneShare pairedOff
+    is (piece 1 3 40 manner.Paired 0
+    ∷ piece 5 2 70 manner.Delivered 0
+    ∷ piece 1 2 30 manner.Delivered 0
+    ∷ piece 1 3 20 manner.Delivered 0
+    ∷ piece 1 4 10 manner.Delivered 0
+    ∷ []))
+    -- "Both fall by the quantity", "a paired figure before open"
+    ∷ (map figures (run oneShare pairedOff .positions)
+    is ((100 ∷ 60 ∷ 0 ∷ 0 ∷ 40 ∷ 0 ∷ [])
+    ∷ (100 ∷ 100 ∷ 0 ∷ 0 ∷ 0 ∷ 0 ∷ [])
+    ∷ (60 ∷ 20 ∷ 0 ∷ 0 ∷ 40 ∷ 0 ∷ [])
+    ∷ (10 ∷ 10 ∷ 0 ∷ 0 ∷ 0 ∷ 0 ∷ [])
+    ∷ (70 ∷ 70 ∷ 0 ∷ 0 ∷ 0 ∷ 0 ∷ [])
+    ∷ []))
+    ∷ (map (balance (run oneShare pairedOff)) (range 0 ACCOUNTS) is replicate ACCOUNTS (pos 0))
+    -- 18 while the auction runs on the short, and 34 before it; 24 by what is free beside an award. The charges are those of the confirmation, 70 at 1,100 against
+    -- 1,000, and of the close: position 1 has nothing open, position 4 is fined for 60 at 1,100
+    ∷ (refusals oneShare pairedBesideAwards is (replicate 11 0 ++ 18 ∷ 34 ∷ 0 ∷ 0 ∷ 24 ∷ 0 ∷ 0 ∷ 0 ∷ []))
+    ∷ (map figures (run oneShare pairedBesideAwards .positions)
+    is ((100 ∷ 0 ∷ 70 ∷ 0 ∷ 30 ∷ 0 ∷ [])
+    ∷ (100 ∷ 0 ∷ 70 ∷ 0 ∷ 0 ∷ 30 ∷ [])
+    ∷ (60 ∷ 0 ∷ 0 ∷ 0 ∷ 30 ∷ 30 ∷ [])
+    ∷ (60 ∷ 0 ∷ 0 ∷ 0 ∷ 0 ∷ 60 ∷ [])
+    ∷ []))
+    ∷ (map (λ c. c .cents) (allCharges oneShare pairedBesideAwards) is (7000 ∷ 0 ∷ 7 ∷ []))
+    -- a member whose late short is set off as a whole is no longer failing
+    ∷ (refusals oneShare freedByPairOff is (replicate 12 0 ++ 21 ∷ 0 ∷ 0 ∷ []))
     ∷ []
 
 pub every-row : Holds table
 unfolding table shareStep recurringStep stepOn ceiling raised cashPrice roundedHalfUp fee cashFee awardFine lateFine buyInCharge inCents check.computing computing cost zipWith
-every-row = (refl, (refl, (refl, (refl, (λ i more. fee-above (4000000001 + more) (omega arith) i, (refl, (refl, (refl, (refl, (refl, (refl, (refl, (refl, (refl, (refl, (refl, (refl, (refl, (refl, (refl, (refl, (refl, (refl, (refl, (refl, (refl, (refl, (refl, (refl, (refl, (refl, (refl, (refl, (refl, (refl, (refl, (refl, (refl, (refl, (refl, (refl, (refl, (refl, (refl, (refl, (refl, (refl, (refl, (refl, (refl, (refl, (refl, (refl, (refl, tt))))))))))))))))))))))))))))))))))))))))))))))))))))))
+every-row = (refl, (refl, (refl, (refl, (λ i more. fee-above (4000000001 + more) (omega arith) i, (refl, (refl, (refl, (refl, (refl, (refl, (refl, (refl, (refl, (refl, (refl, (refl, (refl, (refl, (refl, (refl, (refl, (refl, (refl, (refl, (refl, (refl, (refl, (refl, (refl, (refl, (refl, (refl, (refl, (refl, (refl, (refl, (refl, (refl, (refl, (refl, (refl, (refl, (refl, (refl, (refl, (refl, (refl, (refl, (refl, (refl, (refl, (refl, (refl, (refl, (refl, (refl, (refl, (refl, (refl, (refl, (refl, (refl, tt)))))))))))))))))))))))))))))))))))))))))))))))))))))))))))))))

@@ -72,6 +72,9 @@ cashOf n = event.Cash (record { position = n })
 abbrev cash : Event
 cash = cashOf 1
 
+abbrev pairOff : ℕ → ℕ → ℕ → Event
+pairOff short long quantity = event.PairOff (record { short = short; long = long; quantity = quantity })
+
 abbrev closes : ℕ → List Event
 closes n = replicate n event.Close
 
@@ -242,3 +245,73 @@ lastInPart = offer 4 50 1100 ∷ offer 5 10 1150 ∷ offer 6 40 1050 ∷ []
 -- less than what is open
 abbrev pub tooFewOffers : List Event
 tooFewOffers = offer 4 10 1300 ∷ offer 5 20 1100 ∷ []
+
+-- pair-offs (document 02, Slip 7). Day 1: member 1 sells 100 to 2, positions 1 and 2. Day 2: member 3 sells 60 to member 1 and 10 to member 1's clients,
+-- positions 3 (own long), 4 (client long) and 5 (member 3's short). Day 3: the first two are due, the others are not; 1 with 3, and 5 with 3. Day 4: 1 with the
+-- client long; with member 2's long; with a short; with itself; the long 3 as the first; 65,537 as the second; position 6; position 0 first, with quantity 0;
+-- quantity 0, also of a long; more than is open of the long; 40; one more than is left of the long. Then member 3 delivers 70 and member 1 the rest
+abbrev pub pairedOff : List Call
+pairedOff =
+    callsOf
+    (trade 1 2 100 1000
+    ∷ event.Close
+    ∷ trade 3 1 60 1000
+    ∷ tradeOf 3 0 1 1 1 10 1000
+    ∷ event.Close
+    ∷ pairOff 1 3 40
+    ∷ pairOff 5 3 40
+    ∷ event.Close
+    ∷ pairOff 1 4 10
+    ∷ pairOff 1 2 40
+    ∷ pairOff 1 5 40
+    ∷ pairOff 1 1 40
+    ∷ pairOff 3 1 40
+    ∷ pairOff 1 65537 40
+    ∷ pairOff 1 6 40
+    ∷ pairOff 0 3 0
+    ∷ pairOff 1 3 0
+    ∷ pairOff 3 3 0
+    ∷ pairOff 1 3 61
+    ∷ pairOff 1 3 40
+    ∷ pairOff 1 3 21
+    ∷ deliveryOf 5 70
+    ∷ delivery 60
+    ∷ [])
+
+-- pair-offs and an auction. Day 1: member 1 sells 100 to 2. Day 2: member 3 sells 60 to 1, position 3. Day 8: an attempt on position 1; 1 with 3 while it runs, and
+-- with member 2's long; member 4 offers 70, which are awarded; of the 30 that are free, 31 and then 30 are set off; the award is confirmed; the close
+abbrev pub pairedBesideAwards : List Call
+pairedBesideAwards =
+    callsOf
+    (trade 1 2 100 1000
+    ∷ event.Close
+    ∷ trade 3 1 60 1000
+    ∷ closes 6
+    ++ (price 1100
+    ∷ attempt
+    ∷ pairOff 1 3 10
+    ∷ pairOff 1 2 10
+    ∷ offer 4 70 1100
+    ∷ event.Award (record { position = 1 })
+    ∷ pairOff 1 3 31
+    ∷ pairOff 1 3 30
+    ∷ event.Confirm (record { award = 1 })
+    ∷ event.Close
+    ∷ []))
+
+-- who may offer after a pair-off. Day 1: member 1 sells 20 to 2, member 5 sells 50 to 6. Day 2: member 3 sells 20 to 1, position 5. Day 8: an attempt on member 5's
+-- short, position 3; member 1 offers, sets its short off against its long, and offers again
+abbrev pub freedByPairOff : List Call
+freedByPairOff =
+    callsOf
+    (trade 1 2 20 1000
+    ∷ trade 5 6 50 1000
+    ∷ event.Close
+    ∷ trade 3 1 20 1000
+    ∷ closes 6
+    ++ (price 1100
+    ∷ attemptOn 3
+    ∷ offerOn 3 1 10 1100
+    ∷ pairOff 1 5 20
+    ∷ offerOn 3 1 10 1100
+    ∷ []))

@@ -42,6 +42,8 @@ pub struct Position {
     pub bought: u32,
     // settled in cash
     pub cash: u32,
+    // paired off
+    pub paired: u32,
     // open
     pub unsettled: u32,
 }
@@ -51,6 +53,7 @@ pub enum Manner {
     Delivered,
     BoughtIn,
     Cash,
+    Paired,
 }
 
 // A share of a discharge: units of a short that are dealt out to a long.

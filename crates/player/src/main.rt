@@ -40,7 +40,7 @@ fn print_events(
     page: &mut [u8],
     file: &[u8],
     core: Core,
-    rows: &mut [u32; 11264],
+    rows: &mut [u32; 12288],
     trades: &mut [u32; 3584],
     awards: &mut [u32; 1280],
     counts: &mut [u32; 2048],
@@ -72,7 +72,7 @@ fn print_events(
     played
 }
 
-fn print_end(page: &mut [u8], core: Core, rows: &[u32; 11264])
+fn print_end(page: &mut [u8], core: Core, rows: &[u32; 12288])
     requires { ⌜ ((trades awards counts : List ℕ) × Held core (numbers (now rows) trades awards counts)) × (length (now page) ≡ 131072) ⌝ }
 {
     let used = transcript::end_lines(page, core, rows);

@@ -17,7 +17,7 @@ use Rattle.laws.specs.Alls.{all-of, all-keep, all-at, all-set}
 use Rattle.plain.specs.declared.Position.{Position}
 use Rattle.plain.specs.declared.Piece.{Piece}
 use Rattle.plain.specs.declared.Manner.{Manner}
-use Rattle.plain.specs.declared.Manner.the-variants.{Delivered, BoughtIn, Cash}
+use Rattle.plain.specs.declared.Manner.the-variants.{Delivered, BoughtIn, Cash, Paired}
 use Rattle.plain.specs.Book.{noPosition, nth}
 use Rattle.plain.specs.Dealing.{mannerNumber, longOf, Taker, dealTo, names, taken, takenBy, lowered, lowering}
 use Rattle.plain.specs.Invariants.{Rising, dueLong, openOf, asLong}
@@ -117,7 +117,7 @@ module _ (manner : Manner) (short day security : ℕ) where
 -- WHAT PIECES OF ONE SHORT AND ONE MANNER TAKE
 
 module _ (manner : Manner) (short : ℕ) where
-  Own : Piece → Type 0
+  unfoldable pub Own : Piece → Type 0
   Own x = (x .short ≡ short) × (x .manner ≡ manner)
 
   all-own : (day security n left : ℕ) (ps : List Position) → All Own (handed manner short day security n left ps)
@@ -144,9 +144,9 @@ module _ (manner : Manner) (short : ℕ) where
         (all-of Own (λ x. inManner (x .manner) figure (names k x) ≡ inManner manner figure (names k x)) xs (λ x e. ap (λ (m : Manner). inManner m figure (names k x)) (e .1)) h)
         ∙ sym (only-sum (eqb (mannerNumber manner) (mannerNumber figure)) (names k) xs)
 
-    lowered-own : (p : Position) → lowered xs k p ≡ loweredBy manner (taken k xs) p
+    pub lowered-own : (p : Position) → lowered xs k p ≡ loweredBy manner (taken k xs) p
     unfolding lowered loweredBy
-    lowered-own p = rw (taken-by Delivered, taken-by BoughtIn, taken-by Cash)
+    lowered-own p = rw (taken-by Delivered, taken-by BoughtIn, taken-by Cash, taken-by Paired)
 
 -- THE TABLE WHOSE SHORT HAS FALLEN
 
@@ -172,10 +172,11 @@ unfolding loweredBy
 lowered-sized manner units p h =
     record { whole = omega (arith, h .enough, h .sized .whole, by-manner manner); bounded = h .sized .bounded }
   where
-    by-manner : (m : Manner) → inManner m Delivered units + inManner m BoughtIn units + inManner m Cash units ≡ units
+    by-manner : (m : Manner) → inManner m Delivered units + inManner m BoughtIn units + inManner m Cash units + inManner m Paired units ≡ units
     by-manner Delivered = omega arith
     by-manner BoughtIn = omega arith
     by-manner Cash = omega arith
+    by-manner Paired = omega arith
 
 module _ (manner : Manner) (short day quantity : ℕ) (ps : List Position) (held : Within 1 (length ps) short) (is-short : nth noPosition ps short .short ≡ true)
     (suffice : quantity ≤ openOf (dueLong day (nth noPosition ps short .security)) ps) where

@@ -72,13 +72,17 @@ pub record Dealt : Type 0 where
   pub positions : Positions
   pub pieces : Pieces
 
--- what dealing gives: the pieces, and the table whose "open quantities .. fall by each piece on both sides"
-pub record DealtOut (table : Positions) (day short quantity : ℕ) (manner : Manner) (r : Dealt) : Type 0 where
-  pub pieces : tables.pieces (r .pieces) ≡ dealtOut table day short quantity manner
-  pub positions : tables.positions (r .positions) ≡ lowering (dealtOut table day short quantity manner) (tables.positions table)
+-- what a discharge by these pieces gives: the pieces, and the table whose "open quantities .. fall by each piece on both sides"
+pub record HandedOut (table : Positions) (xs : List Piece) (r : Dealt) : Type 0 where
+  pub pieces : tables.pieces (r .pieces) ≡ xs
+  pub positions : tables.positions (r .positions) ≡ lowering xs (tables.positions table)
   pub pieces-fit : tables.PiecesFit (r .pieces)
   pub positions-fit : tables.PositionsFit (r .positions)
   pub count : r .positions .count ≡ table .count
+
+-- by those that are dealt out
+abbrev pub DealtOut : Positions → ℕ → ℕ → ℕ → Manner → Dealt → Type 0
+DealtOut table day short quantity manner r = HandedOut table (dealtOut table day short quantity manner) r
 
 -- none of the first n positions is an open long of the security
 unfoldable pub ClosedBefore : ℕ → List Position → ℕ → Type 0
@@ -88,7 +92,7 @@ ClosedBefore security items n = (j : ℕ) → j < n → longOf security (getD it
 pub record Walkable (rows sheet : List ℕ) (count day short quantity start : ℕ) : Type 0 where
   pub dealing : Dealing (positionTable rows count) day short quantity
   pub some : 0 < quantity
-  pub rows-length : length rows ≡ 11264
+  pub rows-length : length rows ≡ 12288
   pub sheet-length : length sheet ≡ 4096
   pub within : start ≤ count
   pub closed : ClosedBefore (rowOf rows short .security) (rowsOf rows) start
@@ -96,7 +100,7 @@ pub record Walkable (rows sheet : List ℕ) (count day short quantity start : �
 -- what it leaves in them, the number of pieces, and the place where it ended
 pub record Walked (rows : List ℕ) (count day short quantity : ℕ) (manner : Manner) (after sheet : List ℕ) (pieces end : ℕ) : Type 0 where
   pub dealt : DealtOut (positionTable rows count) day short quantity manner (record { positions = positionTable after count; pieces = pieceTable manner sheet pieces })
-  pub rows-length : length after ≡ 11264
+  pub rows-length : length after ≡ 12288
   pub sheet-length : length sheet ≡ 4096
   pub within : end ≤ count
   pub closed : ClosedBefore (rowOf rows short .security) (rowsOf after) end

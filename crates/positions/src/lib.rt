@@ -1,7 +1,8 @@
-// A discharge dealt out over the table of positions, in place.
-// Document 01, 'Discharge and pieces'.
+// A discharge dealt out over the table of positions, in place, and a short set off against a long.
+// Document 01, 'Discharge and pieces', and document 02, Slip 7.
 ghost use mathlib.Core.Path.{_≡_};
 ghost use Rattle.positions.specs.Dealing as spec;
+ghost use Rattle.positions.specs.Pairing.{SettingOff, SetOff};
 use laws::BusinessDay;
 use plain::Manner;
 use plain::Position;
@@ -45,6 +46,9 @@ fn lowered_by(p: Position, manner: Manner, units: u32) -> Position
         Manner::Cash => {
             after.cash = p.cash + units;
         }
+        Manner::Paired => {
+            after.paired = p.paired + units;
+        }
     }
     after
 }
@@ -52,7 +56,7 @@ fn lowered_by(p: Position, manner: Manner, units: u32) -> Position
 // The table is in order of rising delivery days, so the walk steps along it from day to day, and within a day from
 // position to position; it is left as soon as the quantity is dealt out. It starts where the first open long may be. The table is lent, and changed where it stands.
 pub fn deal(
-    rows: &mut [u32; 11264],
+    rows: &mut [u32; 12288],
     sheet: &mut [u64; 4096],
     count: usize,
     day: BusinessDay,
@@ -94,4 +98,29 @@ pub fn deal(
         pieces: dealt,
         end: i,
     }
+}
+
+// Units of a short are set off against a long: both fall by them, and the sheet's first piece says so. Which long takes them is given, so that nothing is
+// walked over.
+pub fn set_off(
+    rows: &mut [u32; 12288],
+    sheet: &mut [u64; 4096],
+    short: u16,
+    long: u16,
+    quantity: u32,
+)
+    requires { ⌜ SettingOff (now rows) (now sheet) short long quantity ⌝ }
+    ensures { λ _. ⌜ SetOff (now (rows .entry)) short long quantity (now (rows .exit)) (now (sheet .exit)) ⌝ }
+{
+    let short_place = (short - 1) as usize;
+    let own = rows::row_at(rows, short_place);
+    rows::put_row(rows, short_place, lowered_by(own, Manner::Paired, quantity));
+    let long_place = (long - 1) as usize;
+    let other = rows::row_at(rows, long_place);
+    rows::put_row(
+        rows,
+        long_place,
+        lowered_by(other, Manner::Paired, quantity),
+    );
+    pieces::put_piece(sheet, 0, short, long, quantity);
 }

@@ -71,7 +71,7 @@ fn closes_made(closes: u32) -> u32
 // So many closes, the refused ones included.
 fn closed(
     core: Core,
-    rows: &mut [u32; 11264],
+    rows: &mut [u32; 12288],
     trades: &[u32; 3584],
     awards: &[u32; 1280],
     counts: &mut [u32; 2048],

@@ -6,10 +6,11 @@ ghost use lib.Dec.{eqb};
 ghost use Rattle.laws.specs.Asked.{within};
 ghost use Rattle.rules.specs.Windows.{stepOn};
 ghost use Rattle.laws.specs.Refusals.{first};
-ghost use Rattle.plain.specs.Refusals.{isMember, isQuantity, isPrice, isOneParty, hasKinds, runsOn, isNever, isGivenBefore};
-ghost use Rattle.plain.specs.Refusals.{tradeReasons, priceReasons, lookupReasons, deliveryReasons, confirmReasons, cashReasons, attemptReasons, offerReasons, auctionReasons, awardReasons, closeReasons};
+ghost use Rattle.plain.specs.Refusals.{isMember, isQuantity, isPrice, isOneParty, hasKinds, isPairable, runsOn, isNever, isGivenBefore};
+ghost use Rattle.plain.specs.Refusals.{tradeReasons, priceReasons, lookupReasons, deliveryReasons, bothLookupReasons, pairOffReasons, confirmReasons, cashReasons, attemptReasons, offerReasons, auctionReasons, awardReasons, closeReasons};
 use events::Delivery;
 use events::Offer;
+use events::PairOff;
 use events::Price;
 use events::Trade;
 use laws::ATTEMPTS;
@@ -50,6 +51,8 @@ pub const TRADES_FULL: u8 = 15;
 pub const LONG: u8 = 16;
 
 pub const OUTSIDE_WINDOW: u8 = 17;
+
+pub const NOT_PAIRABLE: u8 = 34;
 
 pub const AUCTION: u8 = 18;
 
@@ -349,6 +352,77 @@ pub fn delivery_refusal(
         return AUCTION;
     }
     if free_units(p.unsettled, reserved) < d.quantity {
+        return NOT_ENOUGH;
+    }
+    0
+}
+
+// The refusals of a pair-off before its positions are looked at. The long is as wide as the field that names it.
+pub fn both_lookup_refusal(sheet: usize, held: usize, short: u16, long: u32) -> u8
+    ensures { λ r. ⌜ r ≡ first (bothLookupReasons sheet held short long) ⌝ }
+{
+    if sheet < PLACES {
+        return SMALL_SHEET;
+    }
+    if !is_within(1, held, short as usize) {
+        return NOT_THERE;
+    }
+    if !is_within(1, held, long as usize) {
+        return NOT_THERE;
+    }
+    0
+}
+
+// The second position of a pair-off is a due long of the same member, kind and security as the first.
+fn is_pairable(day: BusinessDay, p: Position, q: Position) -> bool
+    ensures { λ r. ⌜ r ≡ isPairable (day .0) p q ⌝ }
+{
+    if q.short {
+        return false;
+    }
+    if day.0 < q.settlement.0 {
+        return false;
+    }
+    if q.member != p.member {
+        return false;
+    }
+    let long_kind = q.kind;
+    let short_kind = p.kind;
+    if rows::kind_number(long_kind) != rows::kind_number(short_kind) {
+        return false;
+    }
+    q.security == p.security
+}
+
+pub fn pair_off_refusal(
+    p: Position,
+    q: Position,
+    day: BusinessDay,
+    auction: u16,
+    reserved: u32,
+    x: PairOff,
+) -> u8
+    ensures { λ r. ⌜ r ≡ first (pairOffReasons p q (day .0) auction (p .unsettled - reserved) x) ⌝ }
+{
+    if x.quantity == 0 {
+        return WRONG_QUANTITY;
+    }
+    if !p.short {
+        return LONG;
+    }
+    if day.0 < p.settlement.0 {
+        return OUTSIDE_WINDOW;
+    }
+    if !is_pairable(day, p, q) {
+        return NOT_PAIRABLE;
+    }
+    if runs_on(auction, x.short) {
+        return AUCTION; // 18 comes after 34
+    }
+    if free_units(p.unsettled, reserved) < x.quantity {
+        return NOT_ENOUGH;
+    }
+    if q.unsettled < x.quantity {
         return NOT_ENOUGH;
     }
     0

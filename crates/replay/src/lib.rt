@@ -44,7 +44,7 @@ pub fn ready(register: &[u8], file: &[u8]) -> Checked
 // The first `stop` events of a file, one after the other.
 pub fn play(
     core: Core,
-    rows: &mut [u32; 11264],
+    rows: &mut [u32; 12288],
     trades: &mut [u32; 3584],
     awards: &mut [u32; 1280],
     counts: &mut [u32; 2048],

@@ -18,7 +18,7 @@ position-fields : (a b r : List ℕ) (s : ℕ) → ((((115 ∷ 32 ∷ (a ++ (32 
 position-fields a b r s =
     simp (append-assoc, append-nil) (ap (λ (l : List ℕ). 115 ∷ 32 ∷ (a ++ 32 ∷ l)) (append-assoc b (32 ∷ s ∷ r) (10 ∷ [])))
 
-pub position-text : (n : ℕ) (p : Position) → ((((115 ∷ numbers (n ∷ p .member ∷ [])) ++ (32 ∷ [])) ++ (side (p .short) ∷ [])) ++ numbers (p .netted ∷ p .delivered ∷ p .bought ∷ p .cash ∷ p .unsettled ∷ [])) ++ (10 ∷ []) ≡ positionLine n p
+pub position-text : (n : ℕ) (p : Position) → ((((115 ∷ numbers (n ∷ p .member ∷ [])) ++ (32 ∷ [])) ++ (side (p .short) ∷ [])) ++ numbers (p .netted ∷ p .delivered ∷ p .bought ∷ p .cash ∷ p .paired ∷ p .unsettled ∷ [])) ++ (10 ∷ []) ≡ positionLine n p
 unfolding positionLine
 position-text n p =
-    position-fields (digits n) (digits (p .member)) (numbers (p .netted ∷ p .delivered ∷ p .bought ∷ p .cash ∷ p .unsettled ∷ [])) (side (p .short))
+    position-fields (digits n) (digits (p .member)) (numbers (p .netted ∷ p .delivered ∷ p .bought ∷ p .cash ∷ p .paired ∷ p .unsettled ∷ [])) (side (p .short))

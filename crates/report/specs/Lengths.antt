@@ -79,10 +79,10 @@ pub figures-most : (ns : List ℕ) → All (λ n. n < 2 ^ 32) ns → length (num
 figures-most [] h = omega arith
 figures-most (n ∷ ns) h = omega (arith, length-append (digits n) (numbers ns), most32 n (h .0), figures-most ns (h .1))
 
-pub position-most : (n : ℕ) (p : Position) → n < 2 ^ 16 → p .member < 2 ^ 8 → p .netted < 2 ^ 32 → p .delivered < 2 ^ 32 → p .bought < 2 ^ 32 → p .cash < 2 ^ 32 → p .unsettled < 2 ^ 32
+pub position-most : (n : ℕ) (p : Position) → n < 2 ^ 16 → p .member < 2 ^ 8 → p .netted < 2 ^ 32 → p .delivered < 2 ^ 32 → p .bought < 2 ^ 32 → p .cash < 2 ^ 32 → p .paired < 2 ^ 32 → p .unsettled < 2 ^ 32
     → length (positionLine n p) ≤ LINE
 unfolding positionLine
-position-most n p hn hm ha hb hc hd he =
+position-most n p hn hm ha hb hc hd he hf =
     let l =
-    length-line 115 (digits n ∷ digits (p .member) ∷ (side (p .short) ∷ []) ∷ digits (p .netted) ∷ digits (p .delivered) ∷ digits (p .bought) ∷ digits (p .cash) ∷ digits (p .unsettled) ∷ []) in
-    omega (arith, most16 n hn, most8 (p .member) hm, most32 (p .netted) ha, most32 (p .delivered) hb, most32 (p .bought) hc, most32 (p .cash) hd, most32 (p .unsettled) he)
+    length-line 115 (digits n ∷ digits (p .member) ∷ (side (p .short) ∷ []) ∷ digits (p .netted) ∷ digits (p .delivered) ∷ digits (p .bought) ∷ digits (p .cash) ∷ digits (p .paired) ∷ digits (p .unsettled) ∷ []) in
+    omega (arith, most16 n hn, most8 (p .member) hm, most32 (p .netted) ha, most32 (p .delivered) hb, most32 (p .bought) hc, most32 (p .cash) hd, most32 (p .paired) he, most32 (p .unsettled) hf)

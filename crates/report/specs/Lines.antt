@@ -54,7 +54,8 @@ pieceLine p = line 112 (digits (p .short) ∷ digits (p .long) ∷ digits (p .qu
 abbrev pub side : Bool → ℕ
 side short = cond short 68 82
 
--- "positions `s`, number, member, D (short) or R (long), netted, delivered, bought in, cash, open"
+-- "positions `s`, number, member, D (short) or R (long), netted, delivered, bought in, cash, open"; "`s` lines gain a paired figure before open"
+-- (document 02, Slip 7)
 unfoldable pub positionLine : ℕ → Position → List ℕ
 positionLine number p =
     line 115
@@ -65,6 +66,7 @@ positionLine number p =
     ∷ digits (p .delivered)
     ∷ digits (p .bought)
     ∷ digits (p .cash)
+    ∷ digits (p .paired)
     ∷ digits (p .unsettled)
     ∷ [])
 
@@ -76,7 +78,7 @@ accountLine account cents = line 97 (digits account ∷ signed cents ∷ [])
 unfoldable pub refusalLine : ℕ → List ℕ
 refusalLine number = line 102 (digits number ∷ [])
 
--- a page that a line is written into has at least 80 bytes. The longest line, a position's, has 69.
+-- a page that a line is written into has at least 80 bytes. The longest line, a position's, has 80.
 abbrev pub LINE : ℕ
 LINE = 80
 

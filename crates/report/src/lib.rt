@@ -175,6 +175,7 @@ pub fn position_line(page: &mut [u8], number: u16, position: Position) -> usize
         position.delivered as u64,
         position.bought as u64,
         position.cash as u64,
+        position.paired as u64,
         position.unsettled as u64,
     ];
     page[0] = b's';
@@ -248,7 +249,7 @@ pub fn event_lines(
 }
 
 // The lines of the first `count` positions, by rising number from 1. The page has at least 80 bytes for each.
-pub fn position_lines(page: &mut [u8], rows: &[u32; 11264], count: usize) -> usize
+pub fn position_lines(page: &mut [u8], rows: &[u32; 12288], count: usize) -> usize
     requires { ⌜ count ≤ POSITIONS ⌝ }
     ensures { λ r. ⌜ Wrote (LINE * count) (positionLines (positions (positionTable (now (rows .entry)) count))) (now (page .entry)) (now (page .exit)) r ⌝ }
 {

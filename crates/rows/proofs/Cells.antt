@@ -23,23 +23,23 @@ kind-back : (kind : Kind) → kindOf (kindNumber kind) ≡ kind
 kind-back Own = refl
 kind-back Client = refl
 
-row-reads : Reads 11 rowFrom
+row-reads : Reads 12 rowFrom
 row-reads xs ys i j e =
-    rw (first-cell 11 xs ys i j (omega arith) e, e 1 (omega arith), e 2 (omega arith), e 3 (omega arith), e 4 (omega arith), e 5 (omega arith), e 6 (omega arith), e 7 (omega arith), e 8 (omega arith), e 9 (omega arith), e 10 (omega arith))
+    rw (first-cell 12 xs ys i j (omega arith) e, e 1 (omega arith), e 2 (omega arith), e 3 (omega arith), e 4 (omega arith), e 5 (omega arith), e 6 (omega arith), e 7 (omega arith), e 8 (omega arith), e 9 (omega arith), e 10 (omega arith), e 11 (omega arith))
 
-pub row-is : (xs : List ℕ) (k : ℕ) → k < 1024 → getD (rowsOf xs) k noPosition ≡ rowFrom xs (11 * k)
+pub row-is : (xs : List ℕ) (k : ℕ) → k < 1024 → getD (rowsOf xs) k noPosition ≡ rowFrom xs (12 * k)
 unfolding rowsOf
-row-is = law.place-is noPosition 11 1024 rowFrom
+row-is = law.place-is noPosition 12 1024 rowFrom
 
 pub length-rows : (xs : List ℕ) → length (rowsOf xs) ≡ 1024
 unfolding rowsOf
-length-rows = law.length-table noPosition 11 1024 rowFrom
+length-rows = law.length-table noPosition 12 1024 rowFrom
 
-pub row-stored : (xs : List ℕ) (k : ℕ) (p : Position) (b n : ℕ) → length xs ≡ 11264 → k < 1024 → p .member < 256 → p .security < 65536 → p .settlement .0 < 65536 → b ≡ bitOf (p .short) → n ≡ kindNumber (p .kind)
-    → rowsOf (puts (set xs (11 * k) (p .member)) (11 * k) 1 (p .security ∷ b ∷ p .settlement .0 ∷ p .reference ∷ p .netted ∷ p .delivered ∷ p .bought ∷ p .cash ∷ p .unsettled ∷ n ∷ [])) ≡ set (rowsOf xs) k p
+pub row-stored : (xs : List ℕ) (k : ℕ) (p : Position) (b n : ℕ) → length xs ≡ 12288 → k < 1024 → p .member < 256 → p .security < 65536 → p .settlement .0 < 65536 → b ≡ bitOf (p .short) → n ≡ kindNumber (p .kind)
+    → rowsOf (puts (set xs (12 * k) (p .member)) (12 * k) 1 (p .security ∷ b ∷ p .settlement .0 ∷ p .reference ∷ p .netted ∷ p .delivered ∷ p .bought ∷ p .cash ∷ p .paired ∷ p .unsettled ∷ n ∷ [])) ≡ set (rowsOf xs) k p
 unfolding rowsOf
 row-stored xs k p b n long inside m s d e f =
-    law.row-stored noPosition 11 1024 rowFrom row-reads xs k (p .member) (p .security ∷ b ∷ p .settlement .0 ∷ p .reference ∷ p .netted ∷ p .delivered ∷ p .bought ∷ p .cash ∷ p .unsettled ∷ n ∷ []) p long inside refl
+    law.row-stored noPosition 12 1024 rowFrom row-reads xs k (p .member) (p .security ∷ b ∷ p .settlement .0 ∷ p .reference ∷ p .netted ∷ p .delivered ∷ p .bought ∷ p .cash ∷ p .paired ∷ p .unsettled ∷ n ∷ []) p long inside refl
     (rw (e, f, bit-back (p .short), kind-back (p .kind), mod-eq-of-lt m, mod-eq-of-lt s, mod-eq-of-lt d))
 
 -- Trades

@@ -1,4 +1,4 @@
--- The tables of positions, trades and awards as numbers: eleven for each position, seven for each trade, five for each award.
+-- The tables of positions, trades and awards as numbers: twelve for each position, seven for each trade, five for each award.
 use Prim.Native.Nat.{ℕ, _+_, _%_}
 use mathlib.Core.List.{List}
 use lib.ListN.{getD}
@@ -11,12 +11,12 @@ use Rattle.plain.specs.declared.Position.{Position}
 use Rattle.plain.specs.declared.Award.{Award}
 use Rattle.plain.specs.Netting.{kindOf}
 
--- the position whose eleven numbers begin at a place of the list
+-- the position whose twelve numbers begin at a place of the list
 abbrev pub rowFrom : List ℕ → ℕ → Position
 rowFrom xs at =
     record {
       member = getD xs at 0 % 256;
-      kind = kindOf (getD xs (at + 10) 0);
+      kind = kindOf (getD xs (at + 11) 0);
       security = getD xs (at + 1) 0 % 65536;
       short = eqb (getD xs (at + 2) 0) 1;
       settlement = record { 0 = getD xs (at + 3) 0 % 65536 };
@@ -25,7 +25,8 @@ rowFrom xs at =
       delivered = getD xs (at + 6) 0;
       bought = getD xs (at + 7) 0;
       cash = getD xs (at + 8) 0;
-      unsettled = getD xs (at + 9) 0;
+      paired = getD xs (at + 9) 0;
+      unsettled = getD xs (at + 10) 0;
     }
 
 abbrev pub tradeFrom : List ℕ → ℕ → Trade
@@ -55,7 +56,7 @@ noTrade = record { seller = 0; buyer = 0; security = 0; quantity = 0; price = 0;
 
 -- the 1,024 positions, 512 trades and 256 awards
 unfoldable pub rowsOf : List ℕ → List Position
-rowsOf xs = tableFrom 11 POSITIONS rowFrom xs
+rowsOf xs = tableFrom 12 POSITIONS rowFrom xs
 
 unfoldable pub tradesOf : List ℕ → List Trade
 tradesOf xs = tableFrom 7 TRADES tradeFrom xs

@@ -42,6 +42,7 @@ none-on-small b (event.Award a) n small = none-either-way (refusal b (call (even
 none-on-small b (event.Confirm c) n small = rw small refl
 none-on-small b (event.Cash c) n small = rw small refl
 none-on-small b event.Close n small = none-either-way (refusal b (call event.Close n))
+none-on-small b (event.PairOff x) n small = rw small refl
 
 room : (b : plain.Book) (e : Event) (n : ℕ) (small : Bool) → ltb n 1024 ≡ small → length (pieces b (call e n)) ≤ 1024 → length (pieces b (call e n)) ≤ n
 room b e n true h few = rw (none-on-small b e n h) (omega arith)

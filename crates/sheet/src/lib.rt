@@ -13,6 +13,7 @@ use events::Cash;
 use events::Confirm;
 use events::Delivery;
 use events::Event;
+use events::PairOff;
 use plain::Outcome;
 use plain::Piece;
 use tables::Pieces;
@@ -75,6 +76,16 @@ pub fn cash(book: Book, sheet: &mut [Piece], c: Cash) -> Written
 {
     let places = sheet.len();
     let done = book::cash(book, places, c);
+    fill(sheet, done.pieces);
+    reported(done)
+}
+
+pub fn pair_off(book: Book, sheet: &mut [Piece], x: PairOff) -> Written
+    requires { ⌜ Valid book ⌝ }
+    ensures { λ r. ⌜ ReturnedOn book (event.PairOff x) (now (sheet .entry)) (now (sheet .exit)) (r .book) (r .outcome) (r .count) ⌝ }
+{
+    let places = sheet.len();
+    let done = book::pair_off(book, places, x);
     fill(sheet, done.pieces);
     reported(done)
 }

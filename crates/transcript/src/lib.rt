@@ -115,7 +115,7 @@ pub fn play_events(
     page: &mut [u8],
     file: &[u8],
     core: Core,
-    rows: &mut [u32; 11264],
+    rows: &mut [u32; 12288],
     trades: &mut [u32; 3584],
     awards: &mut [u32; 1280],
     counts: &mut [u32; 2048],
@@ -142,6 +142,7 @@ pub fn play_events(
             Event::Confirm(c) => last = calls::confirm(last.core, rows, awards, counts, sheet, c),
             Event::Cash(c) => last = calls::cash(last.core, rows, counts, sheet, c),
             Event::Close => last = calls::close(last.core, rows, trades, awards, counts),
+            Event::PairOff(x) => last = calls::pair_off(last.core, rows, awards, counts, sheet, x),
         }
         let outcome = last.outcome;
         next += 1;
@@ -152,7 +153,7 @@ pub fn play_events(
 }
 
 // The lines of the positions and accounts.
-pub fn end_lines(page: &mut [u8], core: Core, rows: &[u32; 11264]) -> usize
+pub fn end_lines(page: &mut [u8], core: Core, rows: &[u32; 12288]) -> usize
     requires { ⌜ ((trades awards counts : List ℕ) × Held core (numbers (now rows) trades awards counts)) ⌝ }
     ensures { λ r. ⌜ ((trades awards counts : List ℕ) → Wrote END (endText (bookOf core (numbers (now (rows .entry)) trades awards counts))) (now (page .entry)) (now (page .exit)) r) ⌝ }
 {

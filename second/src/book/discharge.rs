@@ -1,4 +1,4 @@
-//! The three calls that discharge a short: delivery, confirmation of an award, cash settlement.
+//! The four calls that discharge a short: delivery, confirmation of an award, cash settlement, pair-off.
 
 use super::{
     number, place, require, Answer, Book, Cause, Charge, Longs, Manner, Piece, Position, Side, HOUSE, SHEET_PLACES,
@@ -13,6 +13,7 @@ impl Position {
             Manner::Delivered => self.delivered += quantity,
             Manner::BoughtIn => self.bought_in += quantity,
             Manner::Cash => self.cash += quantity,
+            Manner::Paired => self.paired += quantity,
         }
     }
 }
@@ -71,6 +72,32 @@ impl Book {
         let cause = Cause::Fee { short: number(short), quantity, latest };
         self.accounts.pay(Charge { payer, payee: HOUSE, cents: fee as i64, cause });
         Ok(Answer { quantity, pieces })
+    }
+
+    /// Sets a short off against a long that the call names. Nothing is dealt out, and nothing is paid.
+    pub(super) fn pair_off(&mut self, sheet: usize, short: u16, long: u32, quantity: u32) -> Result<Answer, Refusal> {
+        require(sheet >= SHEET_PLACES, Refusal::SheetSize)?;
+        let short = self.position(short)?;
+        // Positions have numbers of 16 bits, so that a larger one is none of theirs.
+        let long = u16::try_from(long).map_err(|_| Refusal::NotThere).and_then(|long| self.position(long))?;
+        require(quantity > 0, Refusal::Quantity)?;
+        require(self.positions[short].side == Side::Short, Refusal::Long)?;
+        require(self.positions[short].is_due(self.day), Refusal::Window)?;
+        require(self.is_due_long_beside(short, long), Refusal::NoPair)?;
+        require(!self.auction_runs_on(short), Refusal::Auction)?;
+        require(quantity <= self.free(short) && quantity <= self.positions[long].open(), Refusal::NotFree)?;
+        for position in [short, long] {
+            self.positions[position].discharge(quantity, Manner::Paired);
+        }
+        let [short, long] = [short, long].map(number);
+        Ok(Answer { quantity, pieces: vec![Piece { short, long, quantity, manner: Manner::Paired, cents: 0 }] })
+    }
+
+    /// Whether the other position is a due long of the short's member, kind and security.
+    fn is_due_long_beside(&self, short: usize, other: usize) -> bool {
+        let holding = |position: &Position| (position.member, position.kind, position.security);
+        let [short, other] = [short, other].map(|position| &self.positions[position]);
+        other.side == Side::Long && other.is_due(self.day) && holding(other) == holding(short)
     }
 
     fn long_of(&self, piece: &Piece) -> &Position {

@@ -1,5 +1,5 @@
-//! The fails book: what it holds, and its nine calls. Each call checks in the order of the refusal numbers, but for 32,
-//! which comes after 19, and 33, which comes after 14.
+//! The fails book: what it holds, and its ten calls. Each call checks in the order of the refusal numbers, but for 32,
+//! which comes after 19, 33, which comes after 14, and 34, which comes after 17.
 
 mod auction;
 mod close;
@@ -104,6 +104,7 @@ pub enum Manner {
     Delivered,
     BoughtIn,
     Cash,
+    Paired,
 }
 
 pub struct Position {
@@ -117,6 +118,7 @@ pub struct Position {
     pub delivered: u32,
     pub bought_in: u32,
     pub cash: u32,
+    pub paired: u32,
 }
 
 pub struct Auction {
@@ -166,7 +168,7 @@ impl From<u32> for Answer {
 
 impl Position {
     pub fn open(&self) -> u32 {
-        self.netted - self.delivered - self.bought_in - self.cash
+        self.netted - self.delivered - self.bought_in - self.cash - self.paired
     }
 
     /// Today minus the delivery day, for a due position.
@@ -215,6 +217,7 @@ impl Book {
             Event::Confirm { award } => self.confirm(sheet, award),
             Event::Cash { short } => self.cash(sheet, short),
             Event::Close => self.close().map(Answer::from),
+            Event::PairOff { short, long, quantity } => self.pair_off(sheet, short, long, quantity),
         }
     }
 

@@ -48,5 +48,6 @@ fn position(legs: &[Leg], trade_day: u16) -> Option<Position> {
         delivered: 0,
         bought_in: 0,
         cash: 0,
+        paired: 0,
     })
 }

@@ -18,6 +18,13 @@ pub fn parts(input: &[u8]) -> Parts<'_> {
     Parts { register, isins: &register[2 + securities..], kinds, bodies }
 }
 
+/// The input with its first events alone.
+pub fn first_events(input: &[u8], count: usize) -> Vec<u8> {
+    let Parts { register, kinds, bodies, .. } = parts(input);
+    let header = [count as u16, WIDTH as u16].map(u16::to_le_bytes).concat();
+    [register, &header, &kinds[..count], &bodies[..WIDTH * count]].concat()
+}
+
 pub fn word(bytes: &[u8]) -> u16 {
     u16::from_le_bytes([bytes[0], bytes[1]])
 }

@@ -108,7 +108,7 @@ const REASONS: [&str; 7] = [
     "an ISIN is malformed",
     "an ISIN stands earlier in the register",
     "the file's count, width or length is wrong",
-    "a kind is not 1 to 9",
+    "a kind is not 1 to 10",
     "a spare byte is not zero",
 ];
 
@@ -159,7 +159,7 @@ fn refused_files(file: &[u8], largest: &[u8]) -> [(Vec<u8>, usize); 8] {
         (file_of(&[Event::Close; MOST_EVENTS + 1]), 5),
         (longer(largest, 1), 5),
         (longer(largest, 100_000), 5),
-        (changed(file, 5, 10), 6),
+        (changed(file, 5, 11), 6),
         (changed(file, 6, 1), 7),
     ]
 }

@@ -13,13 +13,16 @@ use tools::csv;
 use tools::played::{Kind, Played, Step};
 use tools::text::{self, Input};
 
-const SQUEEZE: &str = include_str!("../../../examples/squeeze.txt");
-const SQUEEZE_TABLE: &str = include_str!("../../../examples/squeeze.csv");
+/// An example's name, its text and its table.
+const EXAMPLES: [(&str, &str, &str); 2] = [
+    ("squeeze", include_str!("../../../examples/squeeze.txt"), include_str!("../../../examples/squeeze.csv")),
+    ("pairoff", include_str!("../../../examples/pairoff.txt"), include_str!("../../../examples/pairoff.csv")),
+];
 
 const HISTORIES: usize = 300;
 const LONG_HISTORIES: usize = 4;
 
-const COLUMNS: [&str; 32] = [
+const COLUMNS: [&str; 33] = [
     "record",
     "event",
     "day",
@@ -45,6 +48,7 @@ const COLUMNS: [&str; 32] = [
     "delivered",
     "bought_in",
     "cash",
+    "paired",
     "open",
     "manner",
     "charge",
@@ -58,7 +62,7 @@ const COLUMNS: [&str; 32] = [
 const USED: [(&str, &str); 5] = [
     (
         "event",
-        "event day line kind security isin position award member member_kind counterparty counterparty_kind \
+        "event day line kind security isin position long award member member_kind counterparty counterparty_kind \
          stated_quantity quantity price refusal reason text",
     ),
     (
@@ -69,7 +73,7 @@ const USED: [(&str, &str); 5] = [
     (
         "position",
         "event day line kind security isin position member member_kind side reference_price delivery_day netted \
-         delivered bought_in cash open",
+         delivered bought_in cash paired open",
     ),
     (
         "charge",
@@ -98,10 +102,12 @@ const FIELDS: [(&str, &str); 14] = [
 ];
 
 pub fn exhaustive(tests: &mut Tests) {
-    tests.check("csv: the squeeze", &[], |check| {
-        let source = Source::of_text(SQUEEZE.as_bytes());
-        let table = source.and_then(|source| played(&source)).map(|play| play.map(|(played, _)| csv::csv(&played)));
-        same(check, || "squeeze.txt".to_string(), table, Ok(Some(SQUEEZE_TABLE.to_string())));
+    tests.check("csv: the squeeze and the pair-offs", &[], |check| {
+        for (name, text, wanted) in EXAMPLES {
+            let source = Source::of_text(text.as_bytes());
+            let table = source.and_then(|source| played(&source)).map(|play| play.map(|(played, _)| csv::csv(&played)));
+            same(check, || format!("{name}.txt"), table, Ok(Some(wanted.to_string())));
+        }
     });
     tests.check("csv: fields of text", &[], |check| {
         for (text, field) in FIELDS {
@@ -234,7 +240,7 @@ fn transcript_of(records: &[Record]) -> String {
             "piece" => *events.entry(event).or_default() += &format!("p {}\n", line("position long quantity cents")),
             "position" => {
                 let side = if row["side"] == "short" { "D" } else { "R" };
-                let [first, last] = ["position member", "netted delivered bought_in cash open"].map(line);
+                let [first, last] = ["position member", "netted delivered bought_in cash paired open"].map(line);
                 others += &format!("s {first} {side} {last}\n");
             }
             "account" => others += &format!("a {}\n", line("member cents")),
@@ -254,6 +260,7 @@ fn events_of(records: &[Record]) -> Vec<String> {
             "trade" => "kind member member_kind counterparty counterparty_kind security stated_quantity price",
             "price" => "kind security price",
             "delivery" => "kind position stated_quantity",
+            "pair" => "kind position long stated_quantity",
             "offer" => "kind position member stated_quantity price",
             "confirm" => "kind award",
             "close" => "kind",
@@ -302,7 +309,8 @@ fn security_wanted(played: &Played, step: &Step) -> String {
             | Event::Attempt { short }
             | Event::Offer { short, .. }
             | Event::Award { short }
-            | Event::Cash { short },
+            | Event::Cash { short }
+            | Event::PairOff { short, .. },
             Ok(_),
         ) => with_isin(played.position(short).security),
     }
@@ -320,6 +328,7 @@ fn pieces_wanted(played: &Played) -> Vec<String> {
         let manner = match step.event {
             Event::Delivery { .. } => "delivered",
             Event::Confirm { .. } => "bought in",
+            Event::PairOff { .. } => "paired",
             _ => "cash",
         };
         let pieces = step.result.iter().flat_map(|done| &done.pieces);

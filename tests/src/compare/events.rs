@@ -55,7 +55,7 @@ fn each_kind_byte(check: &mut Check) {
     let mut random = Random::new(0, "kinds");
     let two = [random_event(&mut random, 1), random_event(&mut random, 5)];
     for kind in 0..=u8::MAX {
-        let expected = if (1..=9).contains(&kind) { Answer::accepted(1) } else { Answer::refused(6) };
+        let expected = if (1..=10).contains(&kind) { Answer::accepted(1) } else { Answer::refused(6) };
         known(check, &file_of_bodies(&[(kind, [0; WIDTH])]), expected);
         let mut file = events::file_of(&two);
         file[4 + 1] = kind;
@@ -67,7 +67,7 @@ fn each_kind_byte(check: &mut Check) {
 
 fn each_value_of_each_body_byte(check: &mut Check) {
     let mut random = Random::new(0, "spare bytes");
-    for kind in 1..=9 {
+    for kind in 1..=10 {
         for at in 0..WIDTH {
             for value in 0..=u8::MAX {
                 body_byte(check, &mut random, kind, at, value);
@@ -92,7 +92,7 @@ fn body_byte(check: &mut Check, random: &mut Random, kind: u8, at: usize, value:
 fn bytes_of_two_kinds(check: &mut Check) {
     let values = [0, 1, 2, 7, 128, 255];
     let pairs = values.into_iter().flat_map(|first| values.map(|second| [first, second]));
-    let bodies = (1..=9).flat_map(|kind| [(kind, [0; WIDTH]), (kind, full(kind))]);
+    let bodies = (1..=10).flat_map(|kind| [(kind, [0; WIDTH]), (kind, full(kind))]);
     for (bytes, (kind, mut body)) in pairs.flat_map(|bytes| bodies.clone().map(move |body| (bytes, body))) {
         [body[12], body[13]] = bytes;
         let refusal = if kind == 1 || bytes == [0, 0] { 0 } else { 7 };
@@ -101,7 +101,7 @@ fn bytes_of_two_kinds(check: &mut Check) {
 }
 
 fn no_spare_byte(check: &mut Check) {
-    for kind in 1..=9 {
+    for kind in 1..=10 {
         for body in [[0; WIDTH], full(kind)] {
             among_full_trades(check, (kind, body), 0);
         }
@@ -111,7 +111,7 @@ fn no_spare_byte(check: &mut Check) {
 /// Each bit turned over in bodies without a spare byte set.
 fn each_bit_of_each_kind(check: &mut Check) {
     let mut random = Random::new(0, "bits");
-    for kind in 1..=9 {
+    for kind in 1..=10 {
         for bit in 0..8 * WIDTH {
             let refusal = if used(kind).contains(&(bit / 8)) { 0 } else { 7 };
             for mut body in [[0; WIDTH], random_event(&mut random, kind).body(), full(kind)] {
@@ -123,7 +123,7 @@ fn each_bit_of_each_kind(check: &mut Check) {
 }
 
 fn each_bit_of_no_kind(check: &mut Check) {
-    for kind in (0..=u8::MAX).filter(|kind| !(1..=9).contains(kind)) {
+    for kind in (0..=u8::MAX).filter(|kind| !(1..=10).contains(kind)) {
         for bit in 0..8 * WIDTH {
             let mut body = [0; WIDTH];
             body[bit / 8] = 1 << (bit % 8);
@@ -146,7 +146,7 @@ fn among_full_trades(check: &mut Check, tried: (u8, Body), refusal: u32) {
 }
 
 fn each_two_spare_bytes(check: &mut Check) {
-    for kind in 1..=9 {
+    for kind in 1..=10 {
         for first in spare(kind) {
             for second in spare(kind).filter(|&second| second != first) {
                 two_spare_bytes(check, kind, first, second);
@@ -191,7 +191,8 @@ fn faults_of_two_events(check: &mut Check) {
     // The earlier event decides; within an event the kind comes before the spare bytes.
     let [mut spare, set] = [[0; WIDTH], [1; WIDTH]];
     spare[15] = 1;
-    let faults = [(0, [0; WIDTH], 6), (10, set, 6), (255, set, 6), (9, set, 7), (1, spare, 7), (4, spare, 7)];
+    let faults =
+        [(0, [0; WIDTH], 6), (11, set, 6), (255, set, 6), (9, set, 7), (10, set, 7), (1, spare, 7), (4, spare, 7)];
     for (kind, body, refusal) in faults {
         for (later_kind, later_body, _) in faults {
             let file = file_of_bodies(&[(2, [0; WIDTH]), (kind, body), (later_kind, later_body)]);
@@ -208,7 +209,7 @@ fn page_sizes(check: &mut Check) {
             copy(check, &mut random, &file, size);
         }
     }
-    let refused = [file_of_bodies(&[(10, [0; WIDTH])]), file_of_bodies(&[(9, [1; WIDTH])]), vec![1, 0, 16]];
+    let refused = [file_of_bodies(&[(11, [0; WIDTH])]), file_of_bodies(&[(10, [1; WIDTH])]), vec![1, 0, 16]];
     for file in &refused {
         for size in 0..=file.len() + 40 {
             copy(check, &mut random, file, size);
@@ -258,7 +259,7 @@ fn files_of_random_bytes(check: &mut Check, random: &mut Random) {
         // Else the header is hardly ever right.
         if random.one_in(2) {
             file[..4].copy_from_slice(&[count as u8, 0, WIDTH as u8, 0]);
-            file[4..4 + count].iter_mut().for_each(|kind| *kind %= 11);
+            file[4..4 + count].iter_mut().for_each(|kind| *kind %= 12);
         }
         read(check, &file);
     }
@@ -266,7 +267,7 @@ fn files_of_random_bytes(check: &mut Check, random: &mut Random) {
 
 fn random_bodies(check: &mut Check, random: &mut Random) {
     for _ in 0..20_000 {
-        let kind = random.below(11) as u8;
+        let kind = random.below(12) as u8;
         // Were each byte set, each event would be refused.
         let set = random.pick(&[1, 4, 16, 64]);
         let body = std::array::from_fn(|_| if random.one_in(set) { random.byte() } else { 0 });
@@ -276,7 +277,7 @@ fn random_bodies(check: &mut Check, random: &mut Random) {
 
 fn one_spare_byte_or_none(check: &mut Check, random: &mut Random) {
     for _ in 0..20_000 {
-        let kind = random.between(1, 9) as u8;
+        let kind = random.between(1, 10) as u8;
         let mut body = [0; WIDTH];
         used(kind).iter().for_each(|&at| body[at] = random.byte());
         let value = if random.one_in(2) { random.byte() } else { 0 };
@@ -356,6 +357,7 @@ fn used(kind: u8) -> &'static [usize] {
         3 => &[0, 1, 4, 5, 6, 7],
         5 => &[0, 1, 2, 4, 5, 6, 7, 8, 9, 10, 11],
         4 | 6 | 7 | 8 => &[0, 1],
+        10 => &[0, 1, 4, 5, 6, 7, 8, 9, 10, 11],
         _ => &[],
     }
 }
@@ -390,7 +392,7 @@ fn file_of_bodies(events: &[(u8, Body)]) -> Vec<u8> {
 fn random_events(random: &mut Random, count: usize) -> Vec<Event> {
     (0..count)
         .map(|_| {
-            let kind = random.between(1, 9) as u8;
+            let kind = random.between(1, 10) as u8;
             random_event(random, kind)
         })
         .collect()
@@ -402,7 +404,7 @@ fn damaged_file(random: &mut Random) -> Vec<u8> {
     for _ in 0..random.between(0, 2) {
         match random.below(5) {
             0 => damage(random, &mut file),
-            1 if file.len() > 4 + count => file[4 + random.below(count + 1)] = random.pick(&[0, 1, 9, 10, 11, 255]),
+            1 if file.len() > 4 + count => file[4 + random.below(count + 1)] = random.pick(&[0, 1, 9, 10, 11, 12, 255]),
             2 if file.len() > 4 + count => {
                 let at = random.between(4 + count, file.len() - 1);
                 file[at] ^= 1 << random.below(8);

@@ -18,10 +18,11 @@ use tools::check::Source;
 use tools::html::{self, escaped};
 use tools::played::Played;
 
-const EXAMPLES: [&str; 3] = [
+const EXAMPLES: [&str; 4] = [
     include_str!("../../../examples/example.txt"),
     include_str!("../../../examples/squeeze.txt"),
     include_str!("../../../examples/kinds.txt"),
+    include_str!("../../../examples/pairoff.txt"),
 ];
 
 const HISTORIES: usize = 300;
@@ -56,6 +57,8 @@ pub fn exhaustive(tests: &mut Tests) {
     });
     tests.check("html: the latest price of each security, with its day", &[], latest_prices);
     tests.check("html: the kinds of the example", &[], kinds);
+    tests.check("html: the pair-offs of the example", &[], pair_offs);
+    tests.check("html: how positions stand after pair-offs", &[], paired_states);
     tests.check("html: each byte and each sign, escaped", &[], escaped_signs);
     tests.check("html: names that would be markup", &[], names);
     tests.check("html: ISINs that would be markup", &[], isins);
@@ -293,8 +296,6 @@ fn latest_prices(check: &mut Check) {
 
 /// What the page of the example says of kinds, as far as it stands in no row of a position.
 fn kinds(check: &mut Check) {
-    let page = Source::of_text(EXAMPLES[2].as_bytes()).and_then(|source| page("a name", &source));
-    let text = page.and_then(|(_, page)| xml::read(&page)).map(|root| root.text()).unwrap_or_else(|wrong| wrong);
     let said = [
         "trade: member 1 own sells 100 units of security 1 at 1,000 to member 2 own",
         "trade: member 1 own sells 20 units of security 1 at 1,050 to member 1 client",
@@ -306,8 +307,83 @@ fn kinds(check: &mut Check) {
         "→ long 4, member 2 own",
         "auction on short 5 (member 2 client, security 1)",
     ];
+    says(check, EXAMPLES[2], &said);
+}
+
+fn pair_offs(check: &mut Check) {
+    let said = [
+        "delivered (plain) ",
+        "bought in (striped) ",
+        "settled in cash (dotted) ",
+        "paired (crossed) ",
+        "open (hollow) ",
+        "pair-off of 40 units of position 1 with position 5",
+        "40 units of position 1 (member 1 own) paired with position 5 (member 1 own), 0 cents",
+        "50 units of position 2 (member 1 client) paired with position 6 (member 1 client), 0 cents",
+        "refused: position 6 is no due long of member 1 own in security 1: its kind is client",
+        "refused: position 65,541 is not there; there are positions 1 to 7",
+        "100 units: 30 delivered, 10 bought in, 20 settled in cash, 40 paired",
+        "50 units: 10 settled in cash, 40 paired",
+        "→ long 6, member 1 client",
+    ];
+    says(check, EXAMPLES[3], &said);
+}
+
+/// Wants the page of a text to say all of this.
+fn says(check: &mut Check, text: &str, said: &[&str]) {
+    let page = Source::of_text(text.as_bytes()).and_then(|source| page("a name", &source));
+    let text = page.and_then(|(_, page)| xml::read(&page)).map(|root| root.text()).unwrap_or_else(|wrong| wrong);
     for words in said {
         same(check, || format!("{words:?} in {text}"), text.contains(words), true);
+    }
+}
+
+/// Member 1 is long 5 units from day 1 (position 1) and short 5 from day 2 (position 3), which fall due on days 3 and 4;
+/// members 2 and 3 are on the other sides. Events from day 4 on, and how each position stands after them.
+const PAIRED_STATES: [(&str, &[&str]); 7] = [
+    ("pair 3 1 5", &["settled on day 4", "fail: open, 1 day late", "paired on its day", "due today"]),
+    ("pair 3 1 4\ndelivery 3 1", &["settled on day 4", "fail: open, 1 day late", "settled on its day", "due today"]),
+    ("pair 3 1 4", &["open, 1 day late", "fail: open, 1 day late", "fail: due today", "due today"]),
+    (
+        "delivery 2 5\ndelivery 3 5",
+        &["settled on day 4", "fail: settled on day 4", "delivered on its day", "delivered on its day"],
+    ),
+    (
+        "pair 3 1 4\nclose\npair 3 1 1",
+        &["settled on day 5", "fail: open, 2 days late", "fail: settled on day 5", "open, 1 day late"],
+    ),
+    (
+        "pair 3 1 5\ndelivery 2 5",
+        &["settled on day 4", "fail: settled on day 4", "paired on its day", "delivered on its day"],
+    ),
+    // The long 6 gets cash on its delivery day, from the older short 2.
+    (
+        "pair 3 1 5\nclose 5\ntrade 4 5 1 5 100\nclose 2\ndelivery 5 5\nprice 1 100\ncash 2",
+        &[
+            "settled on day 4",
+            "fail: settled on day 11",
+            "paired on its day",
+            "settled on day 11",
+            "delivered on its day",
+            "settled on its day",
+        ],
+    ),
+];
+
+fn paired_states(check: &mut Check) {
+    for (events, states) in PAIRED_STATES {
+        let text = format!("security 1 XX0000000002\ntrade 2 1 1 5 100\nclose\ntrade 1 3 1 5 100\nclose 2\n{events}\n");
+        let page = Source::of_text(text.as_bytes()).and_then(|source| page("a name", &source));
+        let found = page.and_then(|(_, page)| xml::read(&page)).map(|root| {
+            let is_position = |element: &&Element| {
+                let number = element.attribute("id").and_then(|id| id.strip_prefix('s'));
+                number.is_some_and(|number| number.parse::<u16>().is_ok())
+            };
+            let last_cell = |row: &Element| row.children().last().map_or_else(String::new, Element::text);
+            root.all().into_iter().filter(is_position).map(last_cell).collect::<Vec<_>>()
+        });
+        let states = states.iter().map(|state| state.to_string()).collect::<Vec<_>>();
+        same(check, || text.clone(), found, Ok(states));
     }
 }
 
@@ -412,11 +488,18 @@ fn ill_formed(check: &mut Check) {
     }
 }
 
-/// Each figure of the squeeze's page, changed, taken away and there twice: the page must be found wrong.
+/// Each figure of the page of the squeeze and of the pair-offs, changed, taken away and there twice: the page must be
+/// found wrong.
 fn wrong_figures(check: &mut Check) {
-    let source = Source::of_text(EXAMPLES[1].as_bytes());
+    for text in [EXAMPLES[1], EXAMPLES[3]] {
+        wrong_figures_of(check, text);
+    }
+}
+
+fn wrong_figures_of(check: &mut Check, text: &str) {
+    let source = Source::of_text(text.as_bytes());
     let Ok((lines, page)) = source.and_then(|source| page("a name", &source)) else {
-        check.reached("the page of the squeeze", 0);
+        check.reached("a page of the example", 0);
         return;
     };
     const MARK: &str = " data-figure=\"";

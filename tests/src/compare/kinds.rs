@@ -8,7 +8,9 @@ use super::page::{around_the_length, Given};
 use super::prices::{answers, input_of, Answered};
 use crate::check::{Check, Round, Tests};
 use fails_book_tests::histories;
-use known::{Known, KNOWN};
+pub use known::Known;
+use known::KNOWN;
+pub use law::{made, Made};
 use second::book::MOST_TRADES;
 
 const EXAMPLE: &[u8] = include_bytes!("../../../examples/kinds.bin");
@@ -64,8 +66,8 @@ fn each_byte(check: &mut Check) {
     events.push(("close", "0 0"));
     // Member 1 sells 3, 5 and 5 for itself and 3 for a client, which member 2 buys, the last 5 for a client; of member 3 the
     // client sells 7 and 11 to itself.
-    let end = "s 1 1 D 13 0 0 0 13\ns 2 1 D 3 0 0 0 3\ns 3 2 R 11 0 0 0 11\ns 4 2 R 5 0 0 0 5\n\
-               s 5 3 R 18 0 0 0 18\ns 6 3 D 18 0 0 0 18\n";
+    let end = "s 1 1 D 13 0 0 0 0 13\ns 2 1 D 3 0 0 0 0 3\ns 3 2 R 11 0 0 0 0 11\ns 4 2 R 5 0 0 0 0 5\n\
+               s 5 3 R 18 0 0 0 0 18\ns 6 3 D 18 0 0 0 0 18\n";
     answers(check, &[1], &events, end);
 }
 
@@ -85,5 +87,5 @@ fn full_book(check: &mut Check) {
         ("trade 1 2 kind 255 1 2 1000", "33 0"),
         ("close", "0 0"),
     ]);
-    answers(check, &[1], &events, "s 1 1 D 1024 0 0 0 1024\ns 2 2 R 1024 0 0 0 1024\n");
+    answers(check, &[1], &events, "s 1 1 D 1024 0 0 0 0 1024\ns 2 2 R 1024 0 0 0 0 1024\n");
 }

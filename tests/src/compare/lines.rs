@@ -1,6 +1,6 @@
 //! The lines of the last event, whose call `probe` makes on a lent sheet: the pieces that it prints are read from there.
 
-use super::player::{bought_in_below, example, input, shown, squeeze};
+use super::player::{bought_in_below, example, input, own_trade, shown, squeeze};
 use crate::check::{Check, Round, Tests};
 use crate::probe;
 use fails_book_tests::histories;
@@ -19,7 +19,7 @@ const MARGIN: usize = 40;
 const MANY_PIECES: usize = 400;
 
 pub fn exhaustive(tests: &mut Tests) {
-    tests.check("lines: known events on pages of each size", &[0, 11, 14, 19, 32, 33], known_events);
+    tests.check("lines: known events on pages of each size", &[0, 11, 14, 19, 24, 32, 33, 34], known_events);
     tests.check("lines: input cut off at each byte", &[0, 1, 5], |check| {
         let whole = input(1, &example());
         for length in 0..=whole.len() {
@@ -29,7 +29,7 @@ pub fn exhaustive(tests: &mut Tests) {
 }
 
 pub fn seeded(round: &mut Round) {
-    round.check("lines: histories that end in a discharge", &[0, 11, 16, 17, 24, 25, 32], |check, random| {
+    round.check("lines: histories that end in a discharge", &[0, 11, 16, 17, 24, 25, 32, 34], |check, random| {
         for _ in 0..1_200 {
             let input = histories::discharge_on_day(random, 0);
             let size = if random.one_in(10) { random.pick(&SIZES) } else { LEAST_PAGE };
@@ -65,7 +65,13 @@ fn known_events(check: &mut Check) {
         Event::Trade { security: 1, seller, buyer, quantity: 100, price: 1_000 }
     };
     let across_kinds = [&[with_itself([0, 1])], &example()[1..]].concat();
+    let both_ways = [own_trade(1, 2, 100, 1_000), Event::Close, own_trade(3, 1, 80, 1_000), Event::Close, Event::Close];
+    let paired = |long, quantity| [&both_ways[..], &[Event::PairOff { short: 1, long, quantity }]].concat();
     for size in SIZES {
+        known(check, &input(1, &paired(3, 60)), size, "e 6 0 60\np 1 3 60 0\n");
+        known(check, &input(1, &paired(3, 81)), size, "e 6 24 0\n");
+        known(check, &input(1, &paired(2, 60)), size, "e 6 34 0\n");
+        known(check, &input(1, &paired(65_539, 60)), size, "e 6 11 0\n");
         known(check, &input(1, &[with_itself([7, 7])]), size, "e 1 14 0\n");
         known(check, &input(1, &[with_itself([7, 8])]), size, "e 1 33 0\n");
         known(check, &input(1, &across_kinds[..1]), size, "e 1 0 100\n");

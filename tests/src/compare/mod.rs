@@ -13,6 +13,7 @@ pub mod kinds;
 pub mod lines;
 pub mod one_price;
 pub mod page;
+pub mod pair_off;
 pub mod play;
 pub mod play_page;
 pub mod player;

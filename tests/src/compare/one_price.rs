@@ -57,7 +57,7 @@ const KNOWN: [Known; 21] = [
             ("price 1 1100", "0 0"),
             ("cash 1", "0 10\np 1 3 5 15000\np 1 4 5 15000"),
         ],
-        end: "s 1 1 D 10 0 0 10 0\ns 2 2 D 5 0 0 0 5\ns 3 3 R 5 0 0 5 0\ns 4 4 R 10 0 0 5 5\n\
+        end: "s 1 1 D 10 0 0 10 0 0\ns 2 2 D 5 0 0 0 0 5\ns 3 3 R 5 0 0 5 0 0\ns 4 4 R 10 0 0 5 0 5\n\
               a 0 25000\na 1 -55000\na 3 15000\na 4 15000\n",
     },
     Known {
@@ -71,7 +71,8 @@ const KNOWN: [Known; 21] = [
             ("price 1 1100", "0 0"),
             ("cash 1", "0 10\np 1 3 6 18000\np 1 4 4 12000"),
         ],
-        end: "s 1 1 D 10 0 0 10 0\ns 2 2 D 5 0 0 0 5\ns 3 3 R 6 0 0 6 0\ns 4 4 R 5 0 0 4 1\ns 5 5 R 4 0 0 0 4\n\
+        end: "s 1 1 D 10 0 0 10 0 0\ns 2 2 D 5 0 0 0 0 5\ns 3 3 R 6 0 0 6 0 0\ns 4 4 R 5 0 0 4 0 1\n\
+              s 5 5 R 4 0 0 0 0 4\n\
               a 0 25000\na 1 -55000\na 3 18000\na 4 12000\n",
     },
     Known {
@@ -85,7 +86,8 @@ const KNOWN: [Known; 21] = [
             ("price 1 1100", "0 0"),
             ("cash 1", "0 9\np 1 3 4 10000\np 1 4 3 7500\np 1 5 2 5000"),
         ],
-        end: "s 1 1 D 9 0 0 9 0\ns 2 2 D 4 0 0 0 4\ns 3 3 R 4 0 0 4 0\ns 4 4 R 3 0 0 3 0\ns 5 5 R 6 0 0 2 4\n\
+        end:
+            "s 1 1 D 9 0 0 9 0 0\ns 2 2 D 4 0 0 0 0 4\ns 3 3 R 4 0 0 4 0 0\ns 4 4 R 3 0 0 3 0 0\ns 5 5 R 6 0 0 2 0 4\n\
               a 0 25000\na 1 -47500\na 3 10000\na 4 7500\na 5 5000\n",
     },
     Known {
@@ -99,7 +101,8 @@ const KNOWN: [Known; 21] = [
             ("price 1 1100", "0 0"),
             ("cash 1", "0 10\np 1 3 4 10000\np 1 4 3 7500\np 1 5 3 7500"),
         ],
-        end: "s 1 1 D 10 0 0 10 0\ns 2 2 D 3 0 0 0 3\ns 3 3 R 4 0 0 4 0\ns 4 4 R 3 0 0 3 0\ns 5 5 R 6 0 0 3 3\n\
+        end: "s 1 1 D 10 0 0 10 0 0\ns 2 2 D 3 0 0 0 0 3\ns 3 3 R 4 0 0 4 0 0\ns 4 4 R 3 0 0 3 0 0\n\
+              s 5 5 R 6 0 0 3 0 3\n\
               a 0 25000\na 1 -50000\na 3 10000\na 4 7500\na 5 7500\n",
     },
     Known {
@@ -114,8 +117,9 @@ const KNOWN: [Known; 21] = [
             ("price 1 1100", "0 0"),
             ("cash 1", "0 9\np 1 3 4 10000\np 1 4 3 7500\np 1 5 2 5000"),
         ],
-        end: "s 1 1 D 9 0 0 9 0\ns 2 2 D 6 0 0 0 6\ns 3 3 R 4 0 0 4 0\ns 4 4 R 3 0 0 3 0\ns 5 5 R 6 0 0 2 4\n\
-              s 6 6 R 2 0 0 0 2\na 0 25000\na 1 -47500\na 3 10000\na 4 7500\na 5 5000\n",
+        end:
+            "s 1 1 D 9 0 0 9 0 0\ns 2 2 D 6 0 0 0 0 6\ns 3 3 R 4 0 0 4 0 0\ns 4 4 R 3 0 0 3 0 0\ns 5 5 R 6 0 0 2 0 4\n\
+              s 6 6 R 2 0 0 0 0 2\na 0 25000\na 1 -47500\na 3 10000\na 4 7500\na 5 5000\n",
     },
     Known {
         name: "one long, with 2,500",
@@ -127,7 +131,7 @@ const KNOWN: [Known; 21] = [
             ("price 1 1100", "0 0"),
             ("cash 1", "0 5\np 1 3 5 12500"),
         ],
-        end: "s 1 1 D 5 0 0 5 0\ns 2 2 D 9 0 0 0 9\ns 3 3 R 9 0 0 5 4\ns 4 4 R 5 0 0 0 5\n\
+        end: "s 1 1 D 5 0 0 5 0 0\ns 2 2 D 9 0 0 0 0 9\ns 3 3 R 9 0 0 5 0 4\ns 4 4 R 5 0 0 0 0 5\n\
               a 0 25000\na 1 -37500\na 3 12500\n",
     },
     Known {
@@ -141,7 +145,8 @@ const KNOWN: [Known; 21] = [
             ("price 1 1100", "0 0"),
             ("cash 1", "0 7\np 1 3 4 10400\np 1 4 3 7800"),
         ],
-        end: "s 1 1 D 7 0 0 7 0\ns 2 2 D 10 0 0 0 10\ns 3 3 R 4 0 0 4 0\ns 4 4 R 6 0 0 3 3\ns 5 5 R 7 0 0 0 7\n\
+        end: "s 1 1 D 7 0 0 7 0 0\ns 2 2 D 10 0 0 0 0 10\ns 3 3 R 4 0 0 4 0 0\ns 4 4 R 6 0 0 3 0 3\n\
+              s 5 5 R 7 0 0 0 0 7\n\
               a 0 25000\na 1 -43200\na 3 10400\na 4 7800\n",
     },
     Known {
@@ -155,7 +160,8 @@ const KNOWN: [Known; 21] = [
             ("price 1 1100", "0 0"),
             ("cash 1", "0 9\np 1 3 4 8800\np 1 4 3 6600\np 1 5 2 4400"),
         ],
-        end: "s 1 1 D 9 0 0 9 0\ns 2 2 D 4 0 0 0 4\ns 3 3 R 4 0 0 4 0\ns 4 4 R 3 0 0 3 0\ns 5 5 R 6 0 0 2 4\n\
+        end:
+            "s 1 1 D 9 0 0 9 0 0\ns 2 2 D 4 0 0 0 0 4\ns 3 3 R 4 0 0 4 0 0\ns 4 4 R 3 0 0 3 0 0\ns 5 5 R 6 0 0 2 0 4\n\
               a 0 25000\na 1 -44800\na 3 8800\na 4 6600\na 5 4400\n",
     },
     Known {
@@ -169,7 +175,8 @@ const KNOWN: [Known; 21] = [
             ("price 1 1100", "0 0"),
             ("cash 1", "0 7\np 1 3 4 8800\np 1 4 3 6600"),
         ],
-        end: "s 1 1 D 7 0 0 7 0\ns 2 2 D 6 0 0 0 6\ns 3 3 R 4 0 0 4 0\ns 4 4 R 3 0 0 3 0\ns 5 5 R 6 0 0 0 6\n\
+        end:
+            "s 1 1 D 7 0 0 7 0 0\ns 2 2 D 6 0 0 0 0 6\ns 3 3 R 4 0 0 4 0 0\ns 4 4 R 3 0 0 3 0 0\ns 5 5 R 6 0 0 0 0 6\n\
               a 0 25000\na 1 -40400\na 3 8800\na 4 6600\n",
     },
     Known {
@@ -185,7 +192,8 @@ const KNOWN: [Known; 21] = [
             ("price 1 1100", "0 0"),
             ("cash 1", "0 9\np 1 4 3 6600\np 1 5 6 13200"),
         ],
-        end: "s 1 1 D 9 0 0 9 0\ns 2 2 D 4 4 0 0 0\ns 3 3 R 4 4 0 0 0\ns 4 4 R 3 0 0 3 0\ns 5 5 R 6 0 0 6 0\n\
+        end:
+            "s 1 1 D 9 0 0 9 0 0\ns 2 2 D 4 4 0 0 0 0\ns 3 3 R 4 4 0 0 0 0\ns 4 4 R 3 0 0 3 0 0\ns 5 5 R 6 0 0 6 0 0\n\
               a 0 25000\na 1 -44800\na 4 6600\na 5 13200\n",
     },
     // A share of 1 unit is enough for its long to count.
@@ -202,7 +210,8 @@ const KNOWN: [Known; 21] = [
             ("price 1 1100", "0 0"),
             ("cash 1", "0 9\np 1 3 1 9000\np 1 4 3 27000\np 1 5 5 45000"),
         ],
-        end: "s 1 1 D 9 0 0 9 0\ns 2 2 D 4 3 0 0 1\ns 3 3 R 4 3 0 1 0\ns 4 4 R 3 0 0 3 0\ns 5 5 R 6 0 0 5 1\n\
+        end:
+            "s 1 1 D 9 0 0 9 0 0\ns 2 2 D 4 3 0 0 0 1\ns 3 3 R 4 3 0 1 0 0\ns 4 4 R 3 0 0 3 0 0\ns 5 5 R 6 0 0 5 0 1\n\
               a 0 25000\na 1 -106000\na 3 9000\na 4 27000\na 5 45000\n",
     },
     // The trade of day 10 is due on day 12.
@@ -218,7 +227,8 @@ const KNOWN: [Known; 21] = [
             ("price 1 1100", "0 0"),
             ("cash 1", "0 9\np 1 2 7 15400\np 1 3 2 4400"),
         ],
-        end: "s 1 1 D 9 0 0 9 0\ns 2 4 R 7 0 0 7 0\ns 3 5 R 2 0 0 2 0\ns 4 2 D 5 0 0 0 5\ns 5 3 R 5 0 0 0 5\n\
+        end:
+            "s 1 1 D 9 0 0 9 0 0\ns 2 4 R 7 0 0 7 0 0\ns 3 5 R 2 0 0 2 0 0\ns 4 2 D 5 0 0 0 0 5\ns 5 3 R 5 0 0 0 0 5\n\
               a 0 25000\na 1 -44800\na 4 15400\na 5 4400\n",
     },
     Known {
@@ -233,7 +243,8 @@ const KNOWN: [Known; 21] = [
             ("price 1 1100", "0 0"),
             ("cash 1", "0 9\np 1 4 7 15400\np 1 5 2 4400"),
         ],
-        end: "s 1 1 D 9 0 0 9 0\ns 2 2 D 5 0 0 0 5\ns 3 3 R 5 0 0 0 5\ns 4 4 R 7 0 0 7 0\ns 5 5 R 2 0 0 2 0\n\
+        end:
+            "s 1 1 D 9 0 0 9 0 0\ns 2 2 D 5 0 0 0 0 5\ns 3 3 R 5 0 0 0 0 5\ns 4 4 R 7 0 0 7 0 0\ns 5 5 R 2 0 0 2 0 0\n\
               a 0 25000\na 1 -44800\na 4 15400\na 5 4400\n",
     },
     // 1,100 plus 300, on day 33.
@@ -248,7 +259,8 @@ const KNOWN: [Known; 21] = [
             ("price 1 1100", "0 0"),
             ("cash 1", "0 10\np 1 3 4 5604\np 1 4 3 4203\np 1 5 3 4203"),
         ],
-        end: "s 1 1 D 10 0 0 10 0\ns 2 2 D 3 0 0 0 3\ns 3 3 R 4 0 0 4 0\ns 4 4 R 3 0 0 3 0\ns 5 5 R 6 0 0 3 3\n\
+        end: "s 1 1 D 10 0 0 10 0 0\ns 2 2 D 3 0 0 0 0 3\ns 3 3 R 4 0 0 4 0 0\ns 4 4 R 3 0 0 3 0 0\n\
+              s 5 5 R 6 0 0 3 0 3\n\
               a 0 25000\na 1 -39010\na 3 5604\na 4 4203\na 5 4203\n",
     },
     Known {
@@ -262,7 +274,8 @@ const KNOWN: [Known; 21] = [
             ("price 1 1100", "0 0"),
             ("cash 1", "0 10\np 1 3 4 5600\np 1 4 3 4200\np 1 5 3 4200"),
         ],
-        end: "s 1 1 D 10 0 0 10 0\ns 2 2 D 3 0 0 0 3\ns 3 3 R 4 0 0 4 0\ns 4 4 R 3 0 0 3 0\ns 5 5 R 6 0 0 3 3\n\
+        end: "s 1 1 D 10 0 0 10 0 0\ns 2 2 D 3 0 0 0 0 3\ns 3 3 R 4 0 0 4 0 0\ns 4 4 R 3 0 0 3 0 0\n\
+              s 5 5 R 6 0 0 3 0 3\n\
               a 0 25000\na 1 -39000\na 3 5600\na 4 4200\na 5 4200\n",
     },
     Known {
@@ -276,7 +289,8 @@ const KNOWN: [Known; 21] = [
             ("price 1 1100", "0 0"),
             ("cash 1", "0 10\np 1 3 4 8804\np 1 4 3 6603\np 1 5 3 6603"),
         ],
-        end: "s 1 1 D 10 0 0 10 0\ns 2 2 D 3 0 0 0 3\ns 3 3 R 4 0 0 4 0\ns 4 4 R 3 0 0 3 0\ns 5 5 R 6 0 0 3 3\n\
+        end: "s 1 1 D 10 0 0 10 0 0\ns 2 2 D 3 0 0 0 0 3\ns 3 3 R 4 0 0 4 0 0\ns 4 4 R 3 0 0 3 0 0\n\
+              s 5 5 R 6 0 0 3 0 3\n\
               a 0 25000\na 1 -47010\na 3 8804\na 4 6603\na 5 6603\n",
     },
     // The price is 600, doubled 1,200. Short 1 is settled at long 4's 3,000, short 2 at its own 1,300 and short 3 at its
@@ -295,8 +309,9 @@ const KNOWN: [Known; 21] = [
             ("cash 2", "0 6\np 2 5 2 2600\np 2 6 4 5200"),
             ("cash 3", "0 4\np 3 6 4 12000"),
         ],
-        end: "s 1 1 D 8 0 0 8 0\ns 2 2 D 6 0 0 6 0\ns 3 3 D 4 0 0 4 0\ns 4 4 R 4 0 0 4 0\ns 5 5 R 6 0 0 6 0\n\
-              s 6 6 R 8 0 0 8 0\na 0 75000\na 1 -49000\na 2 -32800\na 3 -37000\na 4 12000\na 5 14600\na 6 17200\n",
+        end:
+            "s 1 1 D 8 0 0 8 0 0\ns 2 2 D 6 0 0 6 0 0\ns 3 3 D 4 0 0 4 0 0\ns 4 4 R 4 0 0 4 0 0\ns 5 5 R 6 0 0 6 0 0\n\
+              s 6 6 R 8 0 0 8 0 0\na 0 75000\na 1 -49000\na 2 -32800\na 3 -37000\na 4 12000\na 5 14600\na 6 17200\n",
     },
     // The same positions, settled from the last short on: each has one piece, short 1 at long 6's 1,300.
     Known {
@@ -313,8 +328,9 @@ const KNOWN: [Known; 21] = [
             ("cash 2", "0 6\np 2 5 6 7800"),
             ("cash 1", "0 8\np 1 6 8 10400"),
         ],
-        end: "s 1 1 D 8 0 0 8 0\ns 2 2 D 6 0 0 6 0\ns 3 3 D 4 0 0 4 0\ns 4 4 R 4 0 0 4 0\ns 5 5 R 6 0 0 6 0\n\
-              s 6 6 R 8 0 0 8 0\na 0 75000\na 1 -35400\na 2 -32800\na 3 -37000\na 4 12000\na 5 7800\na 6 10400\n",
+        end:
+            "s 1 1 D 8 0 0 8 0 0\ns 2 2 D 6 0 0 6 0 0\ns 3 3 D 4 0 0 4 0 0\ns 4 4 R 4 0 0 4 0 0\ns 5 5 R 6 0 0 6 0 0\n\
+              s 6 6 R 8 0 0 8 0 0\na 0 75000\na 1 -35400\na 2 -32800\na 3 -37000\na 4 12000\na 5 7800\na 6 10400\n",
     },
     // Member 1 is short on day 1 and long, at 2,500, on day 2; what it pays itself leaves its account as it was.
     Known {
@@ -330,7 +346,7 @@ const KNOWN: [Known; 21] = [
             ("price 1 1100", "0 0"),
             ("cash 1", "0 10\np 1 2 4 10000\np 1 3 6 15000"),
         ],
-        end: "s 1 1 D 10 0 0 10 0\ns 2 3 R 10 6 0 4 0\ns 3 1 R 6 0 0 6 0\ns 4 2 D 6 6 0 0 0\n\
+        end: "s 1 1 D 10 0 0 10 0 0\ns 2 3 R 10 6 0 4 0 0\ns 3 1 R 6 0 0 6 0 0\ns 4 2 D 6 6 0 0 0 0\n\
               a 0 25000\na 1 -35000\na 3 10000\n",
     },
     // 1,000,000 units at 1,100 over 40,000; at the cash price of 3,000 the fee would be 75,000.
@@ -344,8 +360,8 @@ const KNOWN: [Known; 21] = [
             ("price 1 1100", "0 0"),
             ("cash 1", "0 1000000\np 1 3 400000 1200000000\np 1 4 600000 1800000000"),
         ],
-        end: "s 1 1 D 1000000 0 0 1000000 0\ns 2 2 D 400000 0 0 0 400000\ns 3 3 R 400000 0 0 400000 0\n\
-              s 4 4 R 1000000 0 0 600000 400000\na 0 27500\na 1 -3000027500\na 3 1200000000\na 4 1800000000\n",
+        end: "s 1 1 D 1000000 0 0 1000000 0 0\ns 2 2 D 400000 0 0 0 0 400000\ns 3 3 R 400000 0 0 400000 0 0\n\
+              s 4 4 R 1000000 0 0 600000 0 400000\na 0 27500\na 1 -3000027500\na 3 1200000000\na 4 1800000000\n",
     },
     // The second purchase of member 3 raises the reference price of its one long to 2,400.
     Known {
@@ -359,7 +375,7 @@ const KNOWN: [Known; 21] = [
             ("price 1 1100", "0 0"),
             ("cash 1", "0 5\np 1 3 3 7200\np 1 4 2 4800"),
         ],
-        end: "s 1 1 D 5 0 0 5 0\ns 2 2 D 3 0 0 0 3\ns 3 3 R 3 0 0 3 0\ns 4 4 R 5 0 0 2 3\n\
+        end: "s 1 1 D 5 0 0 5 0 0\ns 2 2 D 3 0 0 0 0 3\ns 3 3 R 3 0 0 3 0 0\ns 4 4 R 5 0 0 2 0 3\n\
               a 0 25000\na 1 -37000\na 3 7200\na 4 4800\n",
     },
 ];

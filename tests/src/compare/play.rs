@@ -129,7 +129,12 @@ fn refused_bytes() -> Vec<(Vec<u8>, u8, &'static str)> {
         bytes[at] = byte;
         bytes
     };
-    // 15 bytes of register, 4 of the file's head, 2 kinds, 2 bodies.
+    // 15 bytes of register, 4 of the file's head, 2 kinds, 2 bodies. The second event as a pair-off, with a byte that is set:
+    let paired = |at: usize| {
+        let mut bytes = changed(20, 10);
+        bytes[37 + at] = 1;
+        bytes
+    };
     vec![
         (vec![], 1, "the input has 0 bytes, and a register's count has 2"),
         (vec![1], 1, "the input has 1 byte, and a register's count has 2"),
@@ -144,7 +149,12 @@ fn refused_bytes() -> Vec<(Vec<u8>, u8, &'static str)> {
         (changed(17, 17), 5, "the body width is 17 and not 16"),
         (changed(15, 3), 5, "a file of 3 events has 55 bytes, and 38 follow the register"),
         ([&whole[..], &[0]].concat(), 5, "a file of 2 events has 38 bytes, and 39 follow the register"),
-        (changed(20, 10), 6, "event 2: the kind is 10 and not 1 to 9"),
+        (changed(20, 0), 6, "event 2: the kind is 0 and not 1 to 10"),
+        (changed(20, 11), 6, "event 2: the kind is 11 and not 1 to 10"),
+        (paired(2), 7, "event 2: byte 2 of its body is spare in an event of kind 10, and is 1 and not 0"),
+        (paired(3), 7, "event 2: byte 3 of its body is spare in an event of kind 10, and is 1 and not 0"),
+        (paired(12), 7, "event 2: byte 12 of its body is spare in an event of kind 10, and is 1 and not 0"),
+        (paired(15), 7, "event 2: byte 15 of its body is spare in an event of kind 10, and is 1 and not 0"),
         (changed(21, 1), 7, "event 1: byte 0 of its body is spare in an event of kind 9, and is 1 and not 0"),
         (changed(21 + 12, 1), 7, "event 1: byte 12 of its body is spare in an event of kind 9, and is 1 and not 0"),
         (changed(37 + 13, 1), 7, "event 2: byte 13 of its body is spare in an event of kind 7, and is 1 and not 0"),

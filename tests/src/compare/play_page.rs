@@ -13,10 +13,17 @@ use std::path::Path;
 const LINE: usize = 81;
 const MOST_BYTES: usize = 1_024 * LINE;
 
-/// The example with positions of both kinds, in both forms, and its page.
-const KINDS: [&[u8]; 2] =
-    [include_bytes!("../../../examples/kinds.txt"), include_bytes!("../../../examples/kinds.bin")];
-const KINDS_PAGE: &str = include_str!("../../../examples/kinds.page");
+/// The examples with positions of both kinds and with paired units, each in both forms, and their pages.
+const OTHERS: [([&[u8]; 2], &str); 2] = [
+    (
+        [include_bytes!("../../../examples/kinds.txt"), include_bytes!("../../../examples/kinds.bin")],
+        include_str!("../../../examples/kinds.page"),
+    ),
+    (
+        [include_bytes!("../../../examples/pairoff.txt"), include_bytes!("../../../examples/pairoff.bin")],
+        include_str!("../../../examples/pairoff.page"),
+    ),
+];
 
 /// A text without an event of its own, whose class is refused with 2.
 const REFUSED: &str = "security 4 XX0000000002\n";
@@ -55,8 +62,10 @@ fn shown(check: &mut Check) {
     for bytes in [SQUEEZE.as_bytes(), &squeeze()] {
         same(check, || super::hex(bytes), play(["--page", "-"], bytes), Ended::well(SQUEEZE_PAGE));
     }
-    for bytes in KINDS {
-        same(check, || super::hex(bytes), play(["--page", "-"], bytes), Ended::well(KINDS_PAGE));
+    for (forms, page) in OTHERS {
+        for bytes in forms {
+            same(check, || super::hex(bytes), play(["--page", "-"], bytes), Ended::well(page));
+        }
     }
     // Without a close there is no position, and a refused trade makes none either.
     for events in ["", "trade 1 2 1 100 1,000\n", "close 3\n", "trade 1 1 1 100 1,000\nclose\n"] {

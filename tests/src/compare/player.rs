@@ -13,8 +13,8 @@ use tools::player;
 
 /// What a file can meet: every refusal of register, file and call but for 8, as the player's sheets suffice, and 26, as
 /// no file has enough closes.
-const REACHABLE: [u32; 27] =
-    [0, 1, 2, 3, 4, 5, 6, 7, 9, 10, 11, 12, 13, 14, 15, 16, 17, 18, 19, 20, 21, 22, 23, 24, 25, 32, 33];
+const REACHABLE: [u32; 28] =
+    [0, 1, 2, 3, 4, 5, 6, 7, 9, 10, 11, 12, 13, 14, 15, 16, 17, 18, 19, 20, 21, 22, 23, 24, 25, 32, 33, 34];
 
 const HISTORIES: usize = 1_500;
 const LONG_HISTORIES: usize = 16;
@@ -32,7 +32,7 @@ pub fn exhaustive(tests: &mut Tests) {
     tests.check("player: bought in below the reference price", &[0], |check| {
         let closes_and_price: String = (2..=31).map(|number| format!("e {number} 0 0\n")).collect();
         let auction = "e 32 0 0\ne 33 0 30\ne 34 0 30\ne 35 0 30\np 1 2 30 0\n";
-        let end = "s 1 1 D 30 0 30 0 0\ns 2 2 R 30 0 30 0 0\na 0 -300\na 1 300\n";
+        let end = "s 1 1 D 30 0 30 0 0 0\ns 2 2 R 30 0 30 0 0 0\na 0 -300\na 1 300\n";
         known(check, &input(2, &bought_in_below()), format!("e 1 0 30\n{closes_and_price}{auction}{end}"));
     });
     tests.check("player: input cut off at each byte", &[0, 1, 5], |check| {
@@ -54,7 +54,7 @@ pub fn seeded(round: &mut Round) {
         // No short history holds 512 trades.
         compare(check, &histories::full_book(random));
     });
-    round.check("player: long histories", &[0, 11, 14, 15, 17, 18, 24, 32, 33], |check, random| {
+    round.check("player: long histories", &[0, 11, 14, 15, 17, 18, 24, 32, 33, 34], |check, random| {
         for which in 0..LONG_HISTORIES {
             let input = histories::long(random, which);
             survey.add(&input);
@@ -74,8 +74,8 @@ e 2 0 0
 e 3 0 0
 e 4 0 100
 p 1 2 100 0
-s 1 1 D 100 100 0 0 0
-s 2 2 R 100 100 0 0 0
+s 1 1 D 100 100 0 0 0 0
+s 2 2 R 100 100 0 0 0 0
 ";
 
 pub fn example() -> Vec<Event> {
@@ -115,9 +115,9 @@ e 22 0 0
 e 23 0 90
 p 1 2 40 88000
 p 1 3 50 110000
-s 1 1 D 150 30 30 90 0
-s 2 2 R 100 30 30 40 0
-s 3 3 R 50 0 0 50 0
+s 1 1 D 150 30 30 90 0 0
+s 2 2 R 100 30 30 40 0 0
+s 3 3 R 50 0 0 50 0 0
 a 0 126595
 a 1 -224595
 a 2 88000

@@ -63,31 +63,33 @@ fn known_events(tests: &mut Tests) {
         "age of a price: of yesterday, refused at an attempt and in cash, and fined by",
         &[0, 13, 32],
         |check| {
-            answers(check, &[1], &OF_YESTERDAY, "s 1 1 D 100 0 0 0 100\ns 2 2 R 100 0 0 0 100\na 0 57\na 1 -57\n");
+            answers(check, &[1], &OF_YESTERDAY, "s 1 1 D 100 0 0 0 0 100\ns 2 2 R 100 0 0 0 0 100\na 0 57\na 1 -57\n");
         },
     );
     tests.check("age of a price: of today after one of yesterday", &[0, 22, 32], |check| {
-        let end = "s 1 1 D 100 0 0 100 0\ns 2 2 R 100 0 0 100 0\na 0 125043\na 1 -285043\na 2 260000\na 3 -100000\n";
+        let end = "s 1 1 D 100 0 0 100 0 0\ns 2 2 R 100 0 0 100 0 0\na 0 125043\na 1 -285043\na 2 260000\n\
+                   a 3 -100000\n";
         answers(check, &[1], &OF_TODAY, end);
     });
     tests.check("age of a price: two on one day, of which the later counts", &[0, 22], |check| {
-        let end = "s 1 1 D 100 0 60 40 0\ns 2 2 R 100 0 60 40 0\na 0 97012\na 1 -201012\na 2 104000\n";
+        let end = "s 1 1 D 100 0 60 40 0 0\ns 2 2 R 100 0 60 40 0 0\na 0 97012\na 1 -201012\na 2 104000\n";
         answers(check, &[1], &TWO_ON_ONE_DAY, end);
     });
     tests.check("age of a price: old, and nothing open", &[0, 24, 32], |check| {
-        answers(check, &[1], &NOTHING_OPEN, "s 1 1 D 100 100 0 0 0\ns 2 2 R 100 100 0 0 0\n");
+        answers(check, &[1], &NOTHING_OPEN, "s 1 1 D 100 100 0 0 0 0\ns 2 2 R 100 100 0 0 0 0\n");
     });
     tests.check("age of a price: none, beside a security that has one", &[0, 19], |check| {
-        let end = "s 1 1 D 100 0 0 100 0\ns 2 2 R 100 0 0 100 0\na 0 25000\na 1 -225000\na 2 200000\n";
+        let end = "s 1 1 D 100 0 0 100 0 0\ns 2 2 R 100 0 0 100 0 0\na 0 25000\na 1 -225000\na 2 200000\n";
         answers(check, &[1, 1], &NEVER, end);
     });
     tests.check("age of a price: old, and an earlier reason", &[0, 16, 17, 18, 20, 32], |check| {
-        let positions = "s 1 1 D 100 0 0 0 100\ns 2 2 R 100 0 0 0 100\ns 3 3 D 100 0 0 0 100\ns 4 4 R 100 0 0 0 100\n";
+        let positions = "s 1 1 D 100 0 0 0 0 100\ns 2 2 R 100 0 0 0 0 100\ns 3 3 D 100 0 0 0 0 100\n\
+                         s 4 4 R 100 0 0 0 0 100\n";
         answers(check, &[1, 1], &EARLIER_REASONS, &format!("{positions}a 0 100\na 1 -50\na 3 -50\n"));
     });
     tests.check("age of a price: old, in classes 2 and 3", &[0, 32], |check| {
-        let settled = "s 1 1 D 100 0 0 100 0\ns 2 2 R 100 0 0 100 0\n";
-        let end = "s 3 3 D 100 0 0 0 100\ns 4 4 R 100 0 0 0 100\na 0 25000\na 1 -225000\na 2 200000\n";
+        let settled = "s 1 1 D 100 0 0 100 0 0\ns 2 2 R 100 0 0 100 0 0\n";
+        let end = "s 3 3 D 100 0 0 0 0 100\ns 4 4 R 100 0 0 0 0 100\na 0 25000\na 1 -225000\na 2 200000\n";
         answers(check, &[2, 3], &OTHER_CLASSES, &format!("{settled}{end}"));
     });
     tests.check("age of a price: old, at a seventeenth attempt", &[0, 19, 20, 32], seventeenth_attempt);
@@ -246,8 +248,8 @@ fn seventeenth_attempt(check: &mut Check) {
         [&before[..], &after].map(|events| events.iter().map(|&(event, lines)| (event.to_string(), lines)));
     let events: Vec<(String, &str)> = trades.chain(before).chain(auctions).chain(after).collect();
     let events: Vec<Answered> = events.iter().map(|(event, lines)| (event.as_str(), *lines)).collect();
-    let shorts: String = (1..=19).map(|number| format!("s {number} {number} D 1 0 0 0 1\n")).collect();
-    let longs = "s 20 20 R 17 0 0 0 17\ns 21 20 R 1 0 0 0 1\ns 22 20 R 1 0 0 0 1\n";
+    let shorts: String = (1..=19).map(|number| format!("s {number} {number} D 1 0 0 0 0 1\n")).collect();
+    let longs = "s 20 20 R 17 0 0 0 0 17\ns 21 20 R 1 0 0 0 0 1\ns 22 20 R 1 0 0 0 0 1\n";
     answers(check, &[1, 1, 1], &events, &format!("{shorts}{longs}"));
 }
 
@@ -260,14 +262,19 @@ pub fn input_of(classes: &[u8], events: &[Answered]) -> Vec<u8> {
     text::read(text.as_bytes()).map(|input| input.bytes()).expect("the text has no mistake")
 }
 
-/// Wants the player to answer each event with what stands beside it, and to print these lines at the end.
-pub fn answers(check: &mut Check, classes: &[u8], events: &[Answered], end: &str) {
+/// What is to be printed of the events, and these lines at the end.
+pub fn printed(events: &[Answered], end: &str) -> String {
     let each = events.iter().flat_map(|(event, lines)| {
         let times = event.strip_prefix("close ").map_or(1, |count| count.parse().expect("closes are counted"));
         std::iter::repeat_n(lines, times)
     });
     let lines: String = each.zip(1..).map(|(lines, number)| format!("e {number} {lines}\n")).collect();
-    known_lines(check, &input_of(classes, events), lines + end);
+    lines + end
+}
+
+/// Wants the player to answer each event with what stands beside it, and to print these lines at the end.
+pub fn answers(check: &mut Check, classes: &[u8], events: &[Answered], end: &str) {
+    known_lines(check, &input_of(classes, events), printed(events, end));
 }
 
 /// The numbers of so many securities, and numbers that none of them has: 0, the next one, 257 and 65,535.

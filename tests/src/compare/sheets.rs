@@ -16,18 +16,25 @@ const CLOSES: [u32; 4] = [9_997, 9_998, 9_999, 20_000];
 
 const TRADE: Event = own_trade(1, 2, 100, 1_000);
 const DELIVERY: Event = Event::Delivery { short: 1, quantity: 60 };
+/// Member 1 sells on one day and buys on the next: of its positions 1 is the short and 3 the long.
+const PURCHASE: Event = own_trade(3, 1, 80, 1_000);
+const PAIR_OFF: Event = pair_off(1, 3, 60);
 const PRICE: Event = Event::Price { security: 1, price: 1_100 };
+
+/// All that a pair-off can be refused for, and 0 for an accepted one.
+const PAIR_OFF_REFUSALS: [u32; 9] = [0, 8, 11, 12, 16, 17, 18, 24, 34];
 
 pub fn exhaustive(tests: &mut Tests) {
     tests.check("sheets: a delivery and what is no discharge", &[0, 8, 11], delivery_and_what_is_no_discharge);
     tests.check("sheets: trades of a member with itself, and what comes of them", &[0, 8, 14, 33], across_kinds);
-    tests.check("sheets: day 9,999", &[0, 17, 26], last_business_day);
+    tests.check("sheets: a pair-off, and a short sheet before each other reason", &PAIR_OFF_REFUSALS, pair_offs);
+    tests.check("sheets: day 9,999", &[0, 17, 26, 34], last_business_day);
     tests.check("sheets: buy-in and cash settlement on day 9,999", &[0, 8, 18, 26], last_buy_in_and_cash_settlement);
     tests.check("sheets: prices of days 9,998 and 9,999", &[0, 8, 32], prices_of_the_last_days);
 }
 
 pub fn seeded(round: &mut Round) {
-    round.check("sheets: histories with sheets of any length", &[0, 8, 11, 16, 17, 24, 25, 32], |check, random| {
+    round.check("sheets: histories with sheets of any length", &[0, 8, 11, 16, 17, 24, 25, 32, 34], |check, random| {
         for _ in 0..600 {
             let input = histories::discharge_on_day(random, 0);
             for sheet in SHEETS.into_iter().chain([random.below(2_048) as u32, random.below(65_536) as u32]) {
@@ -58,7 +65,7 @@ fn delivery_and_what_is_no_discharge(check: &mut Check) {
         known(check, &[TRADE, Event::Close, Event::Close, DELIVERY], 0, sheet, delivered);
         // A short sheet is the first reason.
         let not_there = Answer::refused(if enough { 11 } else { 8 });
-        for discharge in [DELIVERY, Event::Confirm { award: 1 }, Event::Cash { short: 1 }] {
+        for discharge in [DELIVERY, Event::Confirm { award: 1 }, Event::Cash { short: 1 }, PAIR_OFF] {
             known(check, &[discharge], 0, sheet, not_there);
         }
         // The other calls have no sheet.
@@ -66,6 +73,39 @@ fn delivery_and_what_is_no_discharge(check: &mut Check) {
         known(check, &[Event::Close], 0, sheet, Answer::accepted(0));
         known(check, &[Event::Attempt { short: 1 }], 0, sheet, Answer::refused(11));
         known(check, &[], 0, sheet, Answer::accepted(0));
+    }
+}
+
+const fn pair_off(short: u16, long: u32, quantity: u32) -> Event {
+    Event::PairOff { short, long, quantity }
+}
+
+fn pair_offs(check: &mut Check) {
+    let book = |days: usize, events: &[Event]| {
+        [&[TRADE, Event::Close, PURCHASE], &vec![Event::Close; days][..], events].concat()
+    };
+    // On day 3 positions 3 and 4 are not due, and on day 4 all are.
+    let cases = [
+        (book(2, &[PAIR_OFF]), Answer::accepted(60)),
+        (book(2, &[pair_off(1, 3, 80)]), Answer::accepted(80)),
+        (book(2, &[pair_off(5, 3, 60)]), Answer::refused(11)),
+        (book(2, &[pair_off(1, 5, 60)]), Answer::refused(11)),
+        (book(2, &[pair_off(1, 65_539, 60)]), Answer::refused(11)),
+        (book(2, &[pair_off(1, 3, 0)]), Answer::refused(12)),
+        (book(2, &[pair_off(3, 1, 60)]), Answer::refused(16)),
+        (book(1, &[pair_off(4, 3, 60)]), Answer::refused(17)),
+        (book(1, &[PAIR_OFF]), Answer::refused(34)),
+        (book(2, &[pair_off(1, 2, 60)]), Answer::refused(34)),
+        (book(7, &[PRICE, Event::Attempt { short: 1 }, PAIR_OFF]), Answer::refused(18)),
+        (book(7, &[PRICE, Event::Attempt { short: 4 }, PAIR_OFF]), Answer::accepted(60)),
+        (book(2, &[pair_off(1, 3, 81)]), Answer::refused(24)),
+        (book(2, &[PAIR_OFF, pair_off(1, 3, 21)]), Answer::refused(24)),
+        (book(2, &[PAIR_OFF, pair_off(1, 3, 20)]), Answer::accepted(20)),
+    ];
+    for sheet in SHEETS {
+        for (events, answer) in &cases {
+            known(check, events, 0, sheet, if sheet >= 1_024 { *answer } else { Answer::refused(8) });
+        }
     }
 }
 
@@ -99,6 +139,10 @@ fn last_business_day(check: &mut Check) {
     known(check, &history, 9_996, 1_024, Answer::refused(26));
     known(check, &history[..4], 9_997, 1_024, Answer::refused(17));
     known(check, &history, 9_995, 1_024, Answer::accepted(0));
+    // Bought on day 9,997 the long is due on the last day, bought on day 9,998 it never is.
+    let pair_off = [TRADE, Event::Close, PURCHASE, Event::Close, Event::Close, PAIR_OFF];
+    known(check, &pair_off, 9_995, 1_024, Answer::accepted(60));
+    known(check, &pair_off, 9_996, 1_024, Answer::refused(34));
 }
 
 fn last_buy_in_and_cash_settlement(check: &mut Check) {

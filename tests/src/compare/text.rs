@@ -40,18 +40,25 @@ const KINDS: Example = Example {
     output: include_str!("../../../examples/kinds.out"),
 };
 
+const PAIR_OFF: Example = Example {
+    name: "pairoff",
+    text: include_str!("../../../examples/pairoff.txt"),
+    binary: include_bytes!("../../../examples/pairoff.bin"),
+    output: include_str!("../../../examples/pairoff.out"),
+};
+
 /// A register of one security, as a line.
 const SECURITY: &str = "security 1 XX0000000002\n";
 
 pub fn exhaustive(tests: &mut Tests) {
     tests.check("text: the examples in both forms", &[], |check| {
-        for Example { name, text, binary: bytes, .. } in [EXAMPLE, SQUEEZE, KINDS] {
+        for Example { name, text, binary: bytes, .. } in [EXAMPLE, SQUEEZE, KINDS, PAIR_OFF] {
             same(check, || format!("{name}.txt"), binary(text), Ok(Hex(bytes.to_vec())));
             same(check, || format!("{name}.bin"), again(bytes), Ok(Hex(bytes.to_vec())));
         }
     });
     tests.check("text: the player's output on the examples", &[], |check| {
-        for Example { name, binary, output, .. } in [EXAMPLE, SQUEEZE, KINDS] {
+        for Example { name, binary, output, .. } in [EXAMPLE, SQUEEZE, KINDS, PAIR_OFF] {
             let player = player::play(binary);
             let player = player.map_or_else(|error| error.to_string(), readable);
             let second = readable(transcript::transcript(binary));
@@ -66,6 +73,7 @@ pub fn exhaustive(tests: &mut Tests) {
     });
     tests.check("text: known kinds of both sides", &[], known_kinds);
     tests.check("text: each byte of a kind, on either side", &[], each_kind_byte);
+    tests.check("text: known pair-offs", &[], known_pair_offs);
     tests.check("text: bad texts", &[], bad_texts);
     tests.check("text: the largest number of each field", &[], largest_numbers);
     tests.check("text: the most securities and events", &[], most_of_all);
@@ -97,7 +105,7 @@ fn most_of_all(check: &mut Check) {
 }
 
 fn random_inputs(check: &mut Check, random: &mut Random) {
-    let mut kinds = [0; 9];
+    let mut kinds = [0; 10];
     let [mut with_kind, mut without_kind] = [0, 0];
     for _ in 0..3_000 {
         let [securities, events] = [random.between(1, 40), random.below(64)];
@@ -145,7 +153,7 @@ fn damaged_inputs(check: &mut Check, random: &mut Random) {
 }
 
 /// A spelling and the text that is written for it.
-const SPELLINGS: [(&str, &str); 12] = [
+const SPELLINGS: [(&str, &str); 13] = [
     ("# none\n\n security\t1  XX0000000002 # a share\r\n#\n", "security 1 XX0000000002\n"),
     ("security 0 XX0000000002\nsecurity 255 ############ #\n", "security 0 XX0000000002\nsecurity 255 ############\n"),
     ("security 1 #X0000#00002 #\n", "security 1 #X0000#00002\n"),
@@ -168,6 +176,7 @@ const SPELLINGS: [(&str, &str); 12] = [
         "security 1 XX0000000002\ntrade 1 own 1 client 3 4 5\n",
     ),
     ("security 1 XX0000000002\ntrade 1 kind 007 2 3 4 5", "security 1 XX0000000002\ntrade 1 kind 7 2 own 3 4 5\n"),
+    ("security 1 XX0000000002\n pair 01\t65_537 1,000# off\n", "security 1 XX0000000002\npair 1 65537 1000\n"),
 ];
 
 /// What stands after seller 1 and after buyer 2, and bytes 12 and 13.
@@ -202,8 +211,28 @@ fn each_kind_byte(check: &mut Check) {
     }
 }
 
+/// Short, long and quantity, and their bytes in the body: 0 and 1, 8 to 11, 4 to 7.
+const PAIR_OFFS: [(&str, [u8; 2], [u8; 4], [u8; 4]); 5] = [
+    ("1 5 40", [1, 0], [5, 0, 0, 0], [40, 0, 0, 0]),
+    ("5 1 40", [5, 0], [1, 0, 0, 0], [40, 0, 0, 0]),
+    ("258 65,537 1,000,001", [2, 1], [1, 0, 1, 0], [65, 66, 15, 0]),
+    ("0 0 0", [0; 2], [0; 4], [0; 4]),
+    ("65,535 4,294,967,295 4,294,967,295", [255; 2], [255; 4], [255; 4]),
+];
+
+fn known_pair_offs(check: &mut Check) {
+    for (numbers, short, long, quantity) in PAIR_OFFS {
+        let line = format!("pair {numbers}");
+        let found = text::read(format!("{SECURITY}{line}\n").as_bytes()).map(|input| Hex(file_of(&input.events)));
+        let file = [&[1, 0, 16, 0, 10], &short[..], &[0, 0], &quantity, &long, &[0; 4]].concat();
+        same(check, || line.clone(), found, Ok(Hex(file)));
+        let plain = format!("{SECURITY}{}\n", line.replace(',', ""));
+        same(check, || line.clone(), written(&plain), Ok(plain.clone()));
+    }
+}
+
 /// Lines after a register of one security, and what is wrong with the last of them.
-const BAD_EVENTS: [(&str, &str); 36] = [
+const BAD_EVENTS: [(&str, &str); 43] = [
     ("sell 1 2 1 100 1000", "line 2: unknown word \"sell\""),
     ("\n# none\nTrade 1 2 1 100 1000", "line 4: unknown word \"Trade\""),
     (
@@ -240,6 +269,13 @@ const BAD_EVENTS: [(&str, &str); 36] = [
     ("award 1 2", "line 2: award takes 1 number (position), and 2 are there"),
     ("confirm", "line 2: confirm takes 1 number (award), and none is there"),
     ("cash", "line 2: cash takes 1 number (position), and none is there"),
+    ("pair 1 5", "line 2: pair takes 3 numbers (short, long, quantity), and 2 are there"),
+    ("pair 1 5 40 0", "line 2: pair takes 3 numbers (short, long, quantity), and 4 are there"),
+    ("pair", "line 2: pair takes 3 numbers (short, long, quantity), and none is there"),
+    ("pair 1 own 5 40", "line 2: pair takes 3 numbers (short, long, quantity), and 4 are there"),
+    ("pair 1 with 40", "line 2: the long is no number: \"with\""),
+    ("pair 1 65,53 40", "line 2: the long is not in groups of three digits: \"65,53\""),
+    ("pair-off 1 5 40", "line 2: unknown word \"pair-off\""),
     ("close 1 2", "line 2: close takes at most 1 number (count of closes), and 2 are there"),
     ("close 0", "line 2: the count of closes is 0"),
     ("close 65,536", "line 2: the count of closes is too large: 65,536, and its field holds at most 65,535"),
@@ -286,7 +322,7 @@ fn bad_texts(check: &mut Check) {
 }
 
 /// Lines with a place for a number, the name of its field and the largest number there.
-const FIELDS: [(&str, &str, u64); 17] = [
+const FIELDS: [(&str, &str, u64); 20] = [
     ("trade @ 2 1 100 1000", "seller", 255),
     ("trade 1 @ 1 100 1000", "buyer", 255),
     ("trade 1 2 @ 100 1000", "security", 65_535),
@@ -304,6 +340,9 @@ const FIELDS: [(&str, &str, u64); 17] = [
     ("award @", "position", 65_535),
     ("confirm @", "award", 65_535),
     ("cash @", "position", 65_535),
+    ("pair @ 5 40", "short", 65_535),
+    ("pair 1 @ 40", "long", 4_294_967_295),
+    ("pair 1 5 @", "quantity", 4_294_967_295),
 ];
 
 fn largest_numbers(check: &mut Check) {
@@ -336,8 +375,10 @@ fn bytes_without_text(check: &mut Check) {
         (17, 17, "this is no register and file: the file's body width is 17 and not 16"),
         (3, b' ', "security 1: the ISIN is not 12 ASCII signs without blanks"),
         (14, 0x80, "security 1: the ISIN is not 12 ASCII signs without blanks"),
-        (20, 0, "event 2: the kind is 0 and not 1 to 9"),
-        (22, 10, "event 4: the kind is 10 and not 1 to 9"),
+        (20, 0, "event 2: the kind is 0 and not 1 to 10"),
+        (22, 11, "event 4: the kind is 11 and not 1 to 10"),
+        // As a pair-off the trade has its two members in spare bytes.
+        (19, 10, "event 1: a spare byte is not zero"),
         (23 + 14, 1, "event 1: a spare byte is not zero"),
         (23 + 16 + 12, 1, "event 2: a spare byte is not zero"),
     ];
@@ -376,7 +417,7 @@ fn random_input(random: &mut Random, securities: usize, events: usize) -> Input 
     let register = (0..securities).map(|_| random_security(random)).collect();
     let mut events_of_kinds = Vec::new();
     for _ in 0..events {
-        let kind = random.between(1, 9) as u8;
+        let kind = random.between(1, 10) as u8;
         events_of_kinds.push(random_event(random, kind));
     }
     Input { register, events: events_of_kinds, ..Input::default() }

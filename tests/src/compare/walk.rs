@@ -18,6 +18,8 @@ use tools::{output, player, walk};
 const EXAMPLE: &str = include_str!("../../../examples/example.txt");
 const SQUEEZE: &str = include_str!("../../../examples/squeeze.txt");
 const SQUEEZE_WALK: &str = include_str!("../../../examples/squeeze.walk");
+const PAIR_OFF: &str = include_str!("../../../examples/pairoff.txt");
+const PAIR_OFF_WALK: &str = include_str!("../../../examples/pairoff.walk");
 
 const HISTORIES: usize = 300;
 const LONG_HISTORIES: usize = 8;
@@ -26,8 +28,10 @@ const LONG_HISTORIES: usize = 8;
 const COLUMNS: usize = 100;
 
 pub fn exhaustive(tests: &mut Tests) {
-    tests.check("walk: the squeeze", &[], |check| {
-        same(check, || "squeeze.txt".to_string(), changed(SQUEEZE, &[]), Ok(SQUEEZE_WALK.to_string()));
+    tests.check("walk: the squeeze and the pair-offs", &[], |check| {
+        for (name, text, walk) in [("squeeze.txt", SQUEEZE, SQUEEZE_WALK), ("pairoff.txt", PAIR_OFF, PAIR_OFF_WALK)] {
+            same(check, || name.to_string(), changed(text, &[]), Ok(walk.to_string()));
+        }
     });
     tests.check("walk: books with little in them", &[], |check| {
         for (events, walk) in LITTLE {
@@ -44,12 +48,15 @@ pub fn exhaustive(tests: &mut Tests) {
 
 pub fn seeded(round: &mut Round) {
     round.check("walk: histories", &[], |check, random| {
-        let mut pieces = 0;
+        let [mut pieces, mut paired] = [0, 0];
         for which in 0..HISTORIES + LONG_HISTORIES {
             let input = if which < HISTORIES { histories::any(random) } else { histories::long(random, which) };
-            pieces += figures(check, &input);
+            let found = figures(check, &input);
+            pieces += found.len() as u64;
+            paired += found.iter().filter(|row| row.manner == "paired").count() as u64;
         }
         check.reached("a piece", pieces);
+        check.reached("a paired piece", paired);
     });
     round.check("walk: one number of a piece or position changed", &[], changed_numbers);
 }
@@ -72,7 +79,7 @@ fn changed(text: &str, changes: &[(&str, &str)]) -> Result<String, String> {
 }
 
 /// Events on one security, and their walk.
-const LITTLE: [(&str, &str); 3] = [
+const LITTLE: [(&str, &str); 4] = [
     (
         "",
         "forward, from each short to its longs:\nnone\n\nback, from each long to its shorts:\nnone\n\n\
@@ -107,16 +114,35 @@ const LITTLE: [(&str, &str); 3] = [
          in all                    2           2              0           0\n\
          both walks meet: 1 pair, 2 units, 0 cents\n",
     ),
+    (
+        "trade 1 2 1 3 1000\nclose\ntrade 3 1 1 2 1000\nclose 2\npair 1 3 1\n",
+        "forward, from each short to its longs:\n\
+         short 1: member 1 own, security 1 (XX0000000002), delivery day 3, 3 units netted\n  \
+           day  event  manner  units  long  member  kind  cents  left open\n    \
+           4      6  paired      1     3       1   own                 2\n  \
+           0 delivered, 0 bought in, 0 in cash for 0 cents\n  1 paired\n\
+         short 4: member 3 own, security 1 (XX0000000002), delivery day 4, no pieces, 2 open\n\n\
+         back, from each long to its shorts:\n\
+         long 2: member 2 own, security 1 (XX0000000002), delivery day 3, no pieces, 3 open\n\
+         long 3: member 1 own, security 1 (XX0000000002), delivery day 4, 2 units netted\n  \
+           day  event  manner  units  short  member  kind  cents  left open\n    \
+           4      6  paired      1      1       1   own                 1\n  \
+           0 delivered, 0 bought in, 0 in cash for 0 cents\n  1 paired\n\n\
+         side by side, for each pair:\n short  long  units forward  units back  cents forward  cents back\n     \
+              1     3              1           1              0           0  equal\n\
+         in all                    1           1              0           0\n\
+         both walks meet: 1 pair, 1 unit, 0 cents\n",
+    ),
 ];
 
-const SHORT_LINE: &str = "s 1 1 D 150 30 30 90 0";
-const LONG_LINE: &str = "s 2 2 R 100 30 30 40 0";
+const SHORT_LINE: &str = "s 1 1 D 150 30 30 90 0 0";
+const LONG_LINE: &str = "s 2 2 R 100 30 30 40 0 0";
 const CASH_LINE: &str = "p 1 2 40 88000";
 
 /// A text, what is changed in its output, and what does not meet then.
 type NotMet = (&'static str, &'static [(&'static str, &'static str)], &'static str);
 
-const NOT_MET: [NotMet; 23] = [
+const NOT_MET: [NotMet; 28] = [
     (SQUEEZE, &[(CASH_LINE, "p 1 2 39 88000")], "position 1: its pieces leave 1 unit open, and the player has 0"),
     (SQUEEZE, &[("p 1 2 30 0", "p 2 2 30 0")], "position 1: its pieces leave 30 units open, and the player has 0"),
     (SQUEEZE, &[("p 1 2 30 0", "p 1 3 30 0")], "position 2: its pieces leave 30 units open, and the player has 0"),
@@ -148,41 +174,58 @@ const NOT_MET: [NotMet; 23] = [
     ),
     (
         SQUEEZE,
-        &[(SHORT_LINE, "s 1 1 D 150 30 30 80 10")],
+        &[(SHORT_LINE, "s 1 1 D 150 30 30 80 0 10")],
         "position 1: its pieces leave 0 units open, and the player has 10",
     ),
     (
         SQUEEZE,
-        &[(LONG_LINE, "s 2 2 R 100 40 20 40 0")],
+        &[(LONG_LINE, "s 2 2 R 100 40 20 40 0 0")],
         "position 2: its pieces have 30 units delivered, and the player has 40",
     ),
     (
         SQUEEZE,
-        &[(SHORT_LINE, "s 1 1 D 150 30 40 80 0")],
+        &[(SHORT_LINE, "s 1 1 D 150 30 40 80 0 0")],
         "position 1: its pieces have 30 units bought in, and the player has 40",
     ),
     (
         SQUEEZE,
-        &[(SHORT_LINE, "s 1 1 D 150 30 30 91 0")],
+        &[(SHORT_LINE, "s 1 1 D 150 30 30 91 0 0")],
         "position 1: its pieces have 90 units in cash, and the player has 91",
     ),
     (
         SQUEEZE,
-        &[(LONG_LINE, "s 2 2 R 150 30 30 40 50")],
+        &[(SHORT_LINE, "s 1 1 D 150 30 30 90 1 0")],
+        "position 1: its pieces have 0 units paired, and the player has 1",
+    ),
+    (
+        PAIR_OFF,
+        &[("e 12 0 40\np 1 5 40 0", "e 12 0 40"), ("e 7 0 30", "e 7 0 30\np 1 5 40 0")],
+        "position 1: its pieces have 70 units delivered, and the player has 30",
+    ),
+    (PAIR_OFF, &[("p 1 5 40 0", "p 1 6 40 0")], "position 5: its pieces leave 50 units open, and the player has 10"),
+    (
+        PAIR_OFF,
+        &[("p 1 5 40 0", "p 1 5 40 1")],
+        "position 1: its pieces come to 44,001 cents, and its payments to 44,000",
+    ),
+    (PAIR_OFF, &[("e 12 0 40", "e 12 0 41")], "event 12: its pieces have 40 units, and it answers 41"),
+    (
+        SQUEEZE,
+        &[(LONG_LINE, "s 2 2 R 150 30 30 40 0 50")],
         "the player has position 2 (member 2, long, 150 units netted), \
          and the play position 2 (member 2, long, 100 units netted)",
     ),
     (
         SQUEEZE,
-        &[(LONG_LINE, "s 2 3 D 100 30 30 40 0")],
+        &[(LONG_LINE, "s 2 3 D 100 30 30 40 0 0")],
         "the player has position 2 (member 3, short, 100 units netted), \
          and the play position 2 (member 2, long, 100 units netted)",
     ),
-    (SQUEEZE, &[("s 3 3 R 50 0 0 50 0", "a 63 0")], "the player has 2 positions, and the play 3 positions"),
+    (SQUEEZE, &[("s 3 3 R 50 0 0 50 0 0", "a 63 0")], "the player has 2 positions, and the play 3 positions"),
     // The long's line is changed as well, so that the pair alone does not meet.
     (
         EXAMPLE,
-        &[("p 1 2 100 0", "p 1 1 100 0"), ("s 2 2 R 100 100 0 0 0", "s 2 2 R 100 0 0 0 100")],
+        &[("p 1 2 100 0", "p 1 1 100 0"), ("s 2 2 R 100 100 0 0 0 0", "s 2 2 R 100 0 0 0 0 100")],
         "short 1 and long 1: 1 piece with 100 units and 0 cents forward, 0 pieces with 0 units and 0 cents back",
     ),
     (
@@ -225,28 +268,27 @@ struct Figures {
     back: Vec<Row>,
     /// By number: side, member, kind, security, ISIN and delivery day, in words.
     headings: BTreeMap<u64, String>,
-    /// By number: netted, delivered, bought in, cash, open, and the cents of the pieces.
-    positions: BTreeMap<u64, [u64; 6]>,
+    /// By number: netted, delivered, bought in, cash, paired, open, and the cents of the pieces.
+    positions: BTreeMap<u64, [u64; 7]>,
     /// By short and long: units, then cents, each forward and back.
     pairs: BTreeMap<(u64, u64), [u64; 4]>,
     in_all: [u64; 4],
     last: String,
 }
 
-/// Compares the walk of the input with what the second implementation's book holds. The pieces are counted.
-fn figures(check: &mut Check, input: &[u8]) -> u64 {
+/// Compares the walk of the input with what the second implementation's book holds, and answers the pieces.
+fn figures(check: &mut Check, input: &[u8]) -> Vec<Row> {
     let walk = match played(&Source::of_bytes(input.to_vec())) {
-        Ok(None) => return 0,
+        Ok(None) => return Vec::new(),
         Ok(Some((played, output))) => output::lines(&output).and_then(|lines| walk::walk(&played, &lines)),
         Err(wrong) => Err(wrong),
     };
     let columns = walk.iter().flat_map(|text| text.lines()).map(str::len).max();
     same(check, || shown(input), columns.is_some_and(|columns| columns <= COLUMNS), true);
     let found = walk.and_then(|text| read(&text));
-    let wanted = wanted(input);
-    let pieces = wanted.forward.len() as u64;
-    same(check, || shown(input), found, Ok(wanted));
-    pieces
+    let wanted = Ok(wanted(input));
+    same(check, || shown(input), &found, &wanted);
+    wanted.map_or_else(|_: String| Vec::new(), |figures| figures.forward)
 }
 
 /// The text read back; a line of no known form is wrong.
@@ -284,8 +326,10 @@ impl Reader {
             }
             [delivered, "delivered", bought_in, "bought-in", cash, "in", "cash", "for", cents, _] => {
                 let [delivered, bought_in, cash, cents] = numbers([delivered, bought_in, cash, cents])?;
-                figures.positions.insert(self.number, [self.netted, delivered, bought_in, cash, self.open, cents]);
+                figures.positions.insert(self.number, [self.netted, delivered, bought_in, cash, 0, self.open, cents]);
             }
+            // It follows the line of the other manners, and is left out where there are none.
+            [paired, "paired"] => figures.positions.get_mut(&self.number)?[4] = paired.parse().ok()?,
             ["in", "all", a, b, c, d] => figures.in_all = numbers([a, b, c, d])?,
             [short, long, a, b, c, d, "equal"] => {
                 let [short, long] = numbers([short, long])?;
@@ -309,7 +353,7 @@ impl Reader {
             [netted, "units", "netted"] => self.netted = netted.parse().ok()?,
             ["no", "pieces", open, "open"] => {
                 let open = open.parse().ok()?;
-                figures.positions.insert(self.number, [open, 0, 0, 0, open, 0]);
+                figures.positions.insert(self.number, [open, 0, 0, 0, 0, open, 0]);
             }
             _ => return None,
         }
@@ -318,7 +362,7 @@ impl Reader {
 
     fn piece(&mut self, figures: &mut Figures, [manner, kind]: [&str; 2], numbers: [u64; 7]) -> Option<()> {
         let [day, event, units, other, member, cents, open] = numbers;
-        let manner = ["delivered", "bought-in", "cash"].into_iter().find(|&name| name == manner)?;
+        let manner = ["delivered", "bought-in", "cash", "paired"].into_iter().find(|&name| name == manner)?;
         let kind = ["own", "client"].into_iter().find(|&name| name == kind)?;
         let (rows, short, long) = match self.side {
             Side::Short => (&mut figures.forward, self.number, other),
@@ -377,10 +421,10 @@ fn headings(register: &[Security], book: &Book) -> BTreeMap<u64, String> {
     (1..).zip(book.positions().iter().map(heading)).collect()
 }
 
-fn positions(book: &Book) -> BTreeMap<u64, [u64; 6]> {
+fn positions(book: &Book) -> BTreeMap<u64, [u64; 7]> {
     let figures = |position: &Position| {
-        let &Position { netted, delivered, bought_in, cash, .. } = position;
-        [netted, delivered, bought_in, cash, position.open(), 0].map(u64::from)
+        let &Position { netted, delivered, bought_in, cash, paired, .. } = position;
+        [netted, delivered, bought_in, cash, paired, position.open(), 0].map(u64::from)
     };
     (1..).zip(book.positions().iter().map(figures)).collect()
 }
@@ -392,6 +436,7 @@ impl Figures {
             Manner::Delivered => "delivered",
             Manner::BoughtIn => "bought-in",
             Manner::Cash => "cash",
+            Manner::Paired => "paired",
         };
         let [short, long] = [piece.short, piece.long].map(u64::from);
         let (units, cents) = (u64::from(piece.quantity), piece.cents);
@@ -402,7 +447,7 @@ impl Figures {
             let other = &book.positions()[to as usize - 1];
             let (member, kind) = (u64::from(other.member), kind_name(other.kind));
             rows.push(Row { event, day, manner, short, long, member, kind, units, cents, open: *left });
-            self.positions.entry(from).or_default()[5] += cents;
+            self.positions.entry(from).or_default()[6] += cents;
         }
         for sums in [self.pairs.entry((short, long)).or_default(), &mut self.in_all] {
             *sums = [sums[0] + units, sums[1] + units, sums[2] + cents, sums[3] + cents];

@@ -1,6 +1,8 @@
 //! A play in words: the examples, each reason for a refusal, charges that add up to the player's accounts, and outputs
 //! that are not the player's.
 
+mod pair_offs;
+
 use super::{hex, kind_name, same};
 use crate::check::{Check, Round, Tests};
 use fails_book_tests::histories;
@@ -8,15 +10,16 @@ use fails_book_tests::histories::terms::Terms;
 use fails_book_tests::random::Random;
 use second::book::{Book, Business, Piece, Position, SHEET_PLACES};
 use second::events::{Event, Party};
+use second::refusal::Refusal;
 use second::transcript;
 use std::collections::BTreeMap;
 use tools::check::Source;
 use tools::output;
-use tools::played::{Kind, Played};
+use tools::played::{Kind, Played, Refused};
 use tools::words;
 
 /// An example's name, its text, the player's output and the words.
-const EXAMPLES: [(&str, &str, &str, &str); 3] = [
+const EXAMPLES: [(&str, &str, &str, &str); 4] = [
     (
         "example",
         include_str!("../../../examples/example.txt"),
@@ -34,6 +37,12 @@ const EXAMPLES: [(&str, &str, &str, &str); 3] = [
         include_str!("../../../examples/kinds.txt"),
         include_str!("../../../examples/kinds.out"),
         include_str!("../../../examples/kinds.words"),
+    ),
+    (
+        "pairoff",
+        include_str!("../../../examples/pairoff.txt"),
+        include_str!("../../../examples/pairoff.out"),
+        include_str!("../../../examples/pairoff.words"),
     ),
 ];
 
@@ -87,6 +96,7 @@ pub fn seeded(round: &mut Round) {
         check.reached("a payment", payments);
         check.reached("a payment of a settlement with several longs in class 3", of_several);
     });
+    round.check("words: pair-offs", &[], pair_offs::of_histories);
     round.check("words: outputs changed in one place", &[], |check, random| {
         for _ in 0..200 {
             let input = histories::any(random);
@@ -96,7 +106,7 @@ pub fn seeded(round: &mut Round) {
 }
 
 /// Events on a register of one security of each class, and the line of words that the last refused one gets.
-const REASONS: [(&str, &str); 47] = [
+const REASONS: [(&str, &str); 73] = [
     ("trade 0 64 1 1 1", "trade: member 0 own sells 1 unit of security 1 at 1 to member 64 own: refused, the seller 0 is not a member from 1 to 63, and the buyer 64 is not a member from 1 to 63 (9)"),
     ("trade 1 64 1 1 1", "trade: member 1 own sells 1 unit of security 1 at 1 to member 64 own: refused, the buyer 64 is not a member from 1 to 63 (9)"),
     ("trade 1 2 4 1 1", "trade: member 1 own sells 1 unit of security 4 at 1 to member 2 own: refused, security 4 is not registered; the register has 3 securities (10)"),
@@ -144,6 +154,32 @@ const REASONS: [(&str, &str); 47] = [
     ("DUE\ndelivery 1 10\nclose 5\nprice 1 100\nattempt 1", "attempt on position 1: refused, nothing of position 1 is open (24)"),
     ("DUE\ndelivery 1 10\nclose 8\nprice 1 100\ncash 1", "cash settlement of position 1: refused, nothing of position 1 is open (24)"),
     ("AUCTION\nconfirm 1\nconfirm 1", "confirmation of award 1: refused, award 1 is confirmed already (25)"),
+    ("pair 1 2 0", "pair-off of 0 units of position 1 with position 2: refused, positions 1 and 2 are not there; there is none yet (11)"),
+    ("DUE\npair 3 3 1", "pair-off of 1 unit of position 3 with position 3: refused, position 3 is not there; there are positions 1 to 2 (11)"),
+    ("DUE\npair 3 2 1", "pair-off of 1 unit of position 3 with position 2: refused, position 3 is not there; there are positions 1 to 2 (11)"),
+    ("DUE\npair 2 0 0", "pair-off of 0 units of position 2 with position 0: refused, position 0 is not there; there are positions 1 to 2 (11)"),
+    ("DUE\npair 65535 3 1", "pair-off of 1 unit of position 65535 with position 3: refused, positions 65,535 and 3 are not there; there are positions 1 to 2 (11)"),
+    ("DUE\npair 1 65538 1", "pair-off of 1 unit of position 1 with position 65538: refused, position 65,538 is not there; there are positions 1 to 2 (11)"),
+    ("DUE\npair 1 4294967295 1", "pair-off of 1 unit of position 1 with position 4294967295: refused, position 4,294,967,295 is not there; there are positions 1 to 2 (11)"),
+    ("DUE\npair 2 1 0", "pair-off of 0 units of position 2 with position 1: refused, the quantity is 0 (12)"),
+    ("DUE\npair 2 1 1", "pair-off of 1 unit of position 2 with position 1: refused, position 2 is long (16)"),
+    ("PAIRS\npair 8 7 1", "pair-off of 1 unit of position 8 with position 7: refused, outside the window: position 8 falls due on day 4 (17)"),
+    ("PAIRS\npair 1 1 1", "pair-off of 1 unit of position 1 with position 1: refused, position 1 is no due long of member 1 own in security 1: it is the short itself (34)"),
+    ("PAIRS\nclose\npair 5 8 1", "pair-off of 1 unit of position 5 with position 8: refused, position 8 is no due long of member 3 own in security 1: it is short (34)"),
+    ("PAIRS\npair 1 7 1", "pair-off of 1 unit of position 1 with position 7: refused, position 7 is no due long of member 1 own in security 1: it falls due on day 4 (34)"),
+    ("PAIRS\npair 1 4 1", "pair-off of 1 unit of position 1 with position 4: refused, position 4 is no due long of member 1 own in security 1: its member is 2 (34)"),
+    ("PAIRS\npair 1 3 1", "pair-off of 1 unit of position 1 with position 3: refused, position 3 is no due long of member 1 own in security 1: its kind is client (34)"),
+    ("PAIRS\npair 1 2 1", "pair-off of 1 unit of position 1 with position 2: refused, position 2 is no due long of member 1 own in security 1: its security is 2 (34)"),
+    ("PAIRS\npair 6 3 1", "pair-off of 1 unit of position 6 with position 3: refused, position 3 is no due long of member 3 own in security 2: its member is 1, and its kind is client, and its security is 1 (34)"),
+    ("PAIRS\npair 1 9 1", "pair-off of 1 unit of position 1 with position 9: refused, position 9 is no due long of member 1 own in security 1: it is short, and it falls due on day 4, and its member is 4, and its kind is client, and its security is 3 (34)"),
+    ("PAIRS\nclose 5\nprice 1 100\nattempt 1\npair 1 7 6", "pair-off of 6 units of position 1 with position 7: refused, the auction runs on position 1 (18)"),
+    ("PAIRS\nclose\npair 1 7 6", "pair-off of 6 units of position 1 with position 7: refused, 5 units of position 7 are open (24)"),
+    ("PAIRS\nclose\npair 1 7 5\npair 1 7 1", "pair-off of 1 unit of position 1 with position 7: refused, 0 units of position 7 are open (24)"),
+    ("PAIRS\nclose\ndelivery 1 6\npair 1 7 5", "pair-off of 5 units of position 1 with position 7: refused, 4 units of position 1 are open (24)"),
+    ("PAIRS\nclose\ndelivery 1 9\npair 1 7 4294967295", "pair-off of 4,294,967,295 units of position 1 with position 7: refused, 1 unit of position 1 is open, and 5 units of position 7 are open (24)"),
+    ("PAIRS\nTAKEN\npair 1 7 3", "pair-off of 3 units of position 1 with position 7: refused, 2 units of position 1 are free: 10 open, of which awards that are not confirmed take 8 (24)"),
+    ("PAIRS\nTAKEN\npair 1 7 6", "pair-off of 6 units of position 1 with position 7: refused, 2 units of position 1 are free: 10 open, of which awards that are not confirmed take 8, and 5 units of position 7 are open (24)"),
+    ("PAIRS\nclose\npair 1 7 4\ndelivery 1 7", "delivery of 7 from position 1: refused, 6 units of position 1 are open (24)"),
 ];
 
 const REGISTER: &str = "security 1 XX0000000002\nsecurity 2 XX0000000010\nsecurity 3 XX0000000028\n";
@@ -157,6 +193,11 @@ fn events_of(line: &str) -> String {
         "OPEN" => open.to_string(),
         "AUCTION" => format!("{open}\noffer 1 9 3 50\naward 1"),
         "OFFERS" => ["offer 1 9 1 1"; 16].join("\n"),
+        // Day 3, on which the shorts 1, 5 and 6 and the longs 2, 3 and 4 are due; 7 to 10 are a day later.
+        "PAIRS" => "trade 1 2 1 10 100\ntrade 3 1 client 1 7 100\ntrade 3 1 2 6 100\nclose\n\
+                    trade 3 1 1 5 100\ntrade 4 client 5 3 1 100\nclose"
+            .to_string(),
+        "TAKEN" => "close 5\nprice 1 100\nattempt 1\noffer 1 9 8 50\naward 1".to_string(),
         "FULL" => ["trade 1 2 1 1 1"; 512].join("\n"),
         "SIXTEEN" => {
             let trades: Vec<String> = (1..18).map(|seller| format!("trade {seller} 20 1 1 1")).collect();
@@ -209,7 +250,7 @@ fn known_lines(check: &mut Check) {
         "71. day 62, line 13: cash settlement of position 3: 1 unit",
         "   1 unit from position 3 (member 1 own) to position 4 (member 2 own) for 400 cents",
         "   cash settlement: member 1 pays member 2 400 cents: 1 unit of position 4 times 400, the highest of reference price 101 of position 3, reference price 101 of position 4 and the latest price 100 plus 300",
-        "position 3: member 1 own, short: 1 netted, 0 delivered, 0 bought in, 1 settled in cash, 0 open",
+        "position 3: member 1 own, short: 1 netted, 0 delivered, 0 bought in, 1 settled in cash, 0 paired, 0 open",
         "account  holder     buy-in difference  cash settlement  cash settlement fee  unconfirmed award  late fine  cents in all",
         "      0  the house                 -1                0               25,000                  0          0        24,999",
         "      1  member 1                   1             -400              -25,000                  0          0       -25,399",
@@ -283,7 +324,8 @@ struct Found {
 }
 
 /// The sides and positions of a play in the order in which its words name them, each as `1 client`: of each event its
-/// sides, then the positions of its pieces and those that it makes, and at the end all positions.
+/// sides, then the short of a pair-off that has no such long, the positions of its pieces and those that it makes, and at
+/// the end all positions.
 fn holders_of(played: &Played, found: &mut Found) -> Vec<String> {
     let holder = |position: &Position| format!("{} {}", position.member, kind_name(position.kind));
     let mut wanted = Vec::new();
@@ -291,6 +333,11 @@ fn holders_of(played: &Played, found: &mut Found) -> Vec<String> {
         if let Event::Trade { seller, buyer, .. } = step.event {
             found.client_trades += u64::from([seller, buyer].iter().any(|party| *party == Party::client(party.member)));
             wanted.extend([seller, buyer].map(side));
+        }
+        if let (Event::PairOff { short, .. }, Err(Refused { refusal: Refusal::NoPair, .. })) =
+            (step.event, &step.result)
+        {
+            wanted.push(holder(played.position(short)));
         }
         let done = step.result.as_ref().ok();
         let pieces = done.iter().flat_map(|done| &done.pieces);
@@ -385,23 +432,23 @@ const OTHER_OUTPUTS: [(&str, &str, &str); 9] = [
     (
         "p 1 2 100 0\n",
         "",
-        r#"output line 5: the player has "s 1 1 D 100 100 0 0 0\n", and the second implementation "p 1 2 100 0\n""#,
+        r#"output line 5: the player has "s 1 1 D 100 100 0 0 0 0\n", and the second implementation "p 1 2 100 0\n""#,
     ),
     (
         "p 1 2 100 0\n",
         "p 1 2 100 1\n",
         r#"output line 5: the player has "p 1 2 100 1\n", and the second implementation "p 1 2 100 0\n""#,
     ),
-    ("s 1 1 D 100 100 0 0 0\ns 2 2 R 100 100 0 0 0\n", "", "the output is cut off: it has 5 of 7 lines"),
-    ("s 2 2 R 100 100 0 0 0\n", "", "the output is cut off: it has 6 of 7 lines"),
+    ("s 1 1 D 100 100 0 0 0 0\ns 2 2 R 100 100 0 0 0 0\n", "", "the output is cut off: it has 5 of 7 lines"),
+    ("s 2 2 R 100 100 0 0 0 0\n", "", "the output is cut off: it has 6 of 7 lines"),
     (
-        "R 100 100 0 0 0\n",
-        "R 100 100 0 0 0",
-        r#"output line 7: the player has "s 2 2 R 100 100 0 0 0", and the second implementation "s 2 2 R 100 100 0 0 0\n""#,
+        "R 100 100 0 0 0 0\n",
+        "R 100 100 0 0 0 0",
+        r#"output line 7: the player has "s 2 2 R 100 100 0 0 0 0", and the second implementation "s 2 2 R 100 100 0 0 0 0\n""#,
     ),
     (
-        "R 100 100 0 0 0\n",
-        "R 100 100 0 0 0\na 2 5\n",
+        "R 100 100 0 0 0 0\n",
+        "R 100 100 0 0 0 0\na 2 5\n",
         r#"output line 8: the output should have ended, and has "a 2 5\n""#,
     ),
     ("e 1 0 100\n", "f 4\n", r#"output line 1: the player has "f 4\n", and the second implementation "e 1 0 100\n""#),

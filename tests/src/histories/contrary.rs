@@ -25,18 +25,23 @@ pub fn random_event(random: &mut Random, kind: u8) -> Event {
         Party { member: random.byte(), kind: random.pick(&kinds) }
     });
     let [quantity, price] = [(); 2].map(|_| random.sized_word() as u32);
-    Event::of(kind, named, parties, quantity, price).expect("a kind from 1 to 9")
+    Event::of(kind, named, parties, quantity, price).expect("a kind from 1 to 10")
 }
 
 impl History<'_> {
     pub(super) fn contrary(&mut self) -> Event {
+        if self.pairs_off && self.random.one_in(6) {
+            if let Some(event) = self.contrary_pair_off() {
+                return event;
+            }
+        }
         let against_state = if self.random.one_in(2) { self.against_state() } else { None };
         against_state.unwrap_or_else(|| self.arbitrary())
     }
 
     /// An event of any kind, each field either as it should be or at an edge.
     pub(super) fn arbitrary(&mut self) -> Event {
-        match self.random.between(1, 9) {
+        match self.random.between(1, if self.pairs_off { 10 } else { 9 }) {
             1 => Event::Trade {
                 security: self.any_security(),
                 seller: self.any_party(),
@@ -56,16 +61,18 @@ impl History<'_> {
             6 => Event::Award { short: self.any_position() },
             7 => Event::Confirm { award: self.any_award() },
             8 => Event::Cash { short: self.any_position() },
-            _ => Event::Close,
+            9 => Event::Close,
+            _ => self.arbitrary_pair_off(),
         }
     }
 
     /// A discharge of any kind, with fields of any value.
     pub(super) fn arbitrary_discharge(&mut self) -> Event {
-        match self.random.below(3) {
+        match self.random.below(4) {
             0 => Event::Delivery { short: self.any_position(), quantity: self.any_quantity() },
             1 => Event::Confirm { award: self.any_award() },
-            _ => Event::Cash { short: self.any_position() },
+            2 => Event::Cash { short: self.any_position() },
+            _ => self.arbitrary_pair_off(),
         }
     }
 
@@ -225,7 +232,7 @@ impl History<'_> {
         }
     }
 
-    fn any_position(&mut self) -> u16 {
+    pub(super) fn any_position(&mut self) -> u16 {
         let count = self.book.positions.len();
         let running = self.book.auction.as_ref().map(|auction| auction.short);
         match (self.random.below(12), running) {
@@ -266,7 +273,7 @@ impl History<'_> {
         }
     }
 
-    fn any_quantity(&mut self) -> u32 {
+    pub(super) fn any_quantity(&mut self) -> u32 {
         match self.random.below(16) {
             0 => 0,
             1 => GREATEST_QUANTITY + 1,

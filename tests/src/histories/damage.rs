@@ -66,7 +66,7 @@ fn damage_file(random: &mut Random, input: &mut [u8], file: usize, events: usize
     match random.below(5) {
         0 => input[file + random.below(2)] = random.byte(),
         1 => input[file + 2 + random.below(2)] = random.pick(&[0, 1, 15, 16, 17]),
-        2 | 3 if events > 0 => input[kinds + random.below(events)] = random.pick(&[0, 9, 10, 255]),
+        2 | 3 if events > 0 => input[kinds + random.below(events)] = random.pick(&[0, 10, 11, 255]),
         _ if events > 0 => input[bodies + random.below(events * WIDTH)] ^= 1 << random.below(8),
         _ => {}
     }

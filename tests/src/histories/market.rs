@@ -6,7 +6,7 @@ use second::book::MOST_OFFERS;
 use second::events::Event;
 
 /// The steps of a market without an auction. A step that finds nothing to do leaves the turn to the next choice.
-const STEPS: [fn(&mut History); 8] = [
+const STEPS: [fn(&mut History); 10] = [
     |history| history.try_to_play(History::fitting_trade),
     |history| history.try_to_play(History::fitting_price),
     |history| history.try_to_play(History::fitting_delivery),
@@ -15,17 +15,19 @@ const STEPS: [fn(&mut History); 8] = [
     |history| history.try_step(History::fitting_cash),
     |history| history.play(Event::Close),
     |history| history.wait_for_a_window(),
+    |history| history.try_to_play(History::fitting_pair_off),
+    |history| history.try_to_play(History::contrary_pair_off),
 ];
 
 /// How often each step is chosen; no market is without attempts and closes.
-const WEIGHTS: [&[usize]; 8] =
-    [&[2, 4, 8], &[1, 2], &[0, 1, 3], &[2, 6], &[0, 2, 6], &[0, 1, 2], &[1, 2], &[0, 1, 1, 2]];
+const WEIGHTS: [&[usize]; 10] =
+    [&[2, 4, 8], &[1, 2], &[0, 1, 3], &[2, 6], &[0, 2, 6], &[0, 1, 2], &[1, 2], &[0, 1, 1, 2], &[0, 1, 3], &[0, 1]];
 
 /// The days after the delivery day at which windows open or have just shut.
 const TURNS: [u16; 16] = [0, 1, 4, 5, 7, 8, 26, 27, 28, 30, 36, 37, 40, 46, 47, 57];
 
 struct Market {
-    weights: [usize; 8],
+    weights: [usize; 10],
     /// After this day no more trades are made.
     last_trade_day: u16,
     /// One event in so many is contrary.
@@ -45,7 +47,7 @@ impl History<'_> {
 
     /// A market that never ends and does everything often.
     pub(super) fn run_busy_market(&mut self) {
-        self.run(&Market { weights: [8, 2, 4, 12, 8, 4, 2, 0], last_trade_day: u16::MAX, contrary: 12 });
+        self.run(&Market { weights: [8, 2, 4, 12, 8, 4, 2, 0, 0, 0], last_trade_day: u16::MAX, contrary: 12 });
     }
 
     fn run(&mut self, market: &Market) {
@@ -71,12 +73,14 @@ impl History<'_> {
     }
 
     fn auction_step(&mut self, market: &Market) {
-        let fitting = match self.random.below(24) {
+        let fitting = match self.random.below(if self.pairs_off { 27 } else { 24 }) {
             0 => return self.fill_auction(),
             1..=3 => return self.market_step(market),
             4 => History::offer_of_failing_member,
             5 => History::offer_above_ceiling,
             6..=17 => History::fitting_offer,
+            24 => History::fitting_pair_off,
+            25 | 26 => History::pair_off_in_auction,
             _ => History::fitting_award,
         };
         self.try_to_play(fitting);

@@ -5,6 +5,7 @@ mod contrary;
 mod damage;
 mod fitting;
 mod market;
+mod pairing;
 pub mod registers;
 mod scenes;
 pub mod survey;
@@ -33,12 +34,24 @@ pub struct History<'a> {
     /// One side of a trade in so many is a client's; without it members trade for themselves alone, as in the histories
     /// that are timed.
     clients: Option<usize>,
+    /// Whether shorts are set off against longs, as in all histories but those that are timed.
+    pairs_off: bool,
 }
 
 impl<'a> History<'a> {
     fn new(random: &'a mut Random, register: Vec<Security>, limit: usize) -> History<'a> {
         let book = Book::open(&register);
-        History { random, register, book, events: Vec::new(), limit, traders: MEMBERS, unpriced: None, clients: None }
+        History {
+            random,
+            register,
+            book,
+            events: Vec::new(),
+            limit,
+            traders: MEMBERS,
+            unpriced: None,
+            clients: None,
+            pairs_off: true,
+        }
     }
 
     /// Closes made on the book before the file begins.

@@ -11,7 +11,7 @@ use std::collections::HashSet;
 /// Any input, most often of a few hundred events at most.
 pub fn any(random: &mut Random) -> Vec<u8> {
     let limit = random.pick(&[5, 20, 60, 60, 150, 150, 400]);
-    match random.below(22) {
+    match random.below(26) {
         0 => tiny(random),
         1 => random_fields(random),
         2..=5 => {
@@ -23,6 +23,7 @@ pub fn any(random: &mut Random) -> Vec<u8> {
         8 => many_pieces(random, 100),
         9 | 10 => waiting(random, limit),
         11 | 12 => settled_in_cash(random),
+        13..=16 => both_ways(random),
         _ => market(random, limit),
     }
 }
@@ -41,6 +42,7 @@ pub fn long(random: &mut Random, which: usize) -> Vec<u8> {
 pub fn mixed(random: &mut Random) -> Vec<u8> {
     let register = with_classes(random, &[1, 1, 1, 1, 1, 1, 2, 3]);
     let mut history = History::new(random, register, MOST_EVENTS);
+    history.pairs_off = false;
     history.run_busy_market();
     history.input()
 }
@@ -96,12 +98,17 @@ pub fn discharge_on_day(random: &mut Random, closes: u32) -> Vec<u8> {
         history.hold_auction();
         history.confirm();
     }
-    let event = match history.random.below(6) {
+    if history.random.one_in(3) {
+        history.trade_both_ways();
+    }
+    let event = match history.random.below(9) {
         0 => history.fitting_confirmation().or_else(|| history.fitting_cash()),
         1 => history.second_confirmation().or_else(|| history.fitting_delivery()),
         2 => history.fitting_cash(),
         3 => history.fitting_delivery(),
         4 => Some(history.arbitrary_discharge()),
+        5 | 6 => history.fitting_pair_off(),
+        7 => history.contrary_pair_off(),
         _ => Some(history.contrary()),
     };
     let event = event.unwrap_or(Event::Close);
@@ -150,7 +157,7 @@ fn random_fields(random: &mut Random) -> Vec<u8> {
     let mut history = some_history(random, limit);
     while !history.is_full() {
         // Closes would be most of what is accepted.
-        let kind = history.random.between(1, 8) as u8;
+        let kind = history.random.pick(&[1, 2, 3, 4, 5, 6, 7, 8, 10]);
         let event = random_event(history.random, kind);
         history.play(event);
     }
@@ -219,6 +226,36 @@ impl History<'_> {
         let quantity = self.random.between(1, 40) as u32;
         let [seller, buyer] = [seller + 1, buyer].map(|member| self.party(member as u8));
         self.play(Event::Trade { security: 1, seller, buyer, quantity, price: price as u32 });
+    }
+
+    /// A member sells in one security and kind on one day and buys on another, and once all is due it holds a short and a
+    /// long.
+    fn trade_both_ways(&mut self) {
+        let security = self.random.below(self.register.len());
+        let member = self.random.between(1, self.traders);
+        let [member, other] = [member, member % self.traders + 1].map(|member| self.party(member as u8));
+        let mut sides = [member, other];
+        let mut quantity = self.quantity();
+        for _ in 0..self.random.between(2, 3) {
+            let [seller, buyer] = sides;
+            let price = self.price_near_latest(security);
+            self.play(Event::Trade { security: number(security), seller, buyer, quantity, price });
+            self.play(Event::Close);
+            sides.reverse();
+            // The same quantity back leaves nothing open of both positions.
+            quantity = if self.random.one_in(2) { quantity } else { self.quantity() };
+        }
+        self.close(2);
+    }
+
+    /// Some pair-offs, of which most fit.
+    fn set_off(&mut self) {
+        for _ in 0..self.random.between(1, 5) {
+            match self.random.below(3) {
+                0 => self.try_to_play(History::contrary_pair_off),
+                _ => self.try_to_play(History::fitting_pair_off),
+            }
+        }
     }
 
     /// Closes to a day on which the shorts of day 1 may be attempted. Securities 1, 2 and 4 get a price on an earlier
@@ -303,6 +340,42 @@ fn settled_in_cash(random: &mut Random) -> Vec<u8> {
         }
     }
     history.limit = history.limit.min(history.events.len() + 20);
+    history.run_market();
+    history.input()
+}
+
+/// Few members trade on several days, so that they hold shorts and longs in one security, and set these off against each
+/// other: as soon as some of them are due, once all are, around an auction, and before cash settlements.
+fn both_ways(random: &mut Random) -> Vec<u8> {
+    let class = random.between(1, 3) as u8;
+    let register = with_classes(random, &[class; 2]);
+    let mut history = History::new(random, register, 200);
+    history.traders = history.random.between(2, 4);
+    history.clients = some_clients(history.random);
+    let price = history.price_near_latest(0);
+    history.price_all(price);
+    for _ in 0..history.random.between(2, 3) {
+        (0..history.random.between(2, 6)).for_each(|_| history.try_to_play(History::fitting_trade));
+        history.play(Event::Close);
+    }
+    // The first positions are due, the last ones are not.
+    (0..4).for_each(|_| history.try_to_play(History::contrary_pair_off));
+    for _ in 0..2 {
+        history.close(1);
+        history.set_off();
+    }
+    history.auction_beside_a_long();
+    history.confirm();
+    history.hold_auction();
+    history.set_off();
+    history.confirm();
+    if history.random.one_in(2) {
+        history.trade_both_ways();
+    }
+    history.set_off();
+    history.close(3);
+    (0..history.random.below(3)).for_each(|_| history.try_step(History::fitting_cash));
+    history.limit = history.limit.min(history.events.len() + 60);
     history.run_market();
     history.input()
 }

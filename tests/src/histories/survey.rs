@@ -2,8 +2,10 @@
 
 mod auctions;
 mod kinds;
+mod pairing;
 
 use super::terms::{Term, Terms};
+use pairing::Pairing;
 use second::book::{
     Answer, Auction, Award, Book, Business, LatestPrice, Piece, Position, Side, MOST_ATTEMPTS, SHEET_PLACES,
 };
@@ -130,6 +132,54 @@ states! {
     FailingClient "an offer refused of a member that is failing for its clients alone",
     FailingOwn "an offer refused of a member that is failing for itself alone, beside a client position",
     LateClient "a late client short that is fined",
+    PairedPart "a pair-off that leaves both positions open",
+    PairedShort "a pair-off of all that is open of the short, and less than that of the long",
+    PairedLong "a pair-off of all that is open of the long, and less than that of the short",
+    PairedBoth "a pair-off of all that is open of both positions",
+    PairedShortFirst "a pair-off of a short with a long of a later delivery day",
+    PairedLongFirst "a pair-off of a short with a long of an earlier delivery day",
+    PairedShortToday "a pair-off on the short's delivery day",
+    PairedLongToday "a pair-off on the long's delivery day",
+    Paired1 "a pair-off in class 1",
+    Paired2 "a pair-off in class 2",
+    Paired3 "a pair-off in class 3",
+    PairedBesideAuction "a pair-off while an auction runs on another short",
+    PairedAwarded "a pair-off of a short with awards that are not confirmed",
+    PairedAllFree "a pair-off of all that is free of a short with awards that are not confirmed",
+    PairedBoughtIn "a pair-off of a short after an award on it was confirmed",
+    PairedDelivered "a pair-off with a long to which was delivered before",
+    ClientPaired "a client short paired off",
+    DeliveredRest "a delivery of a short after a pair-off of it",
+    BoughtInRest "an award confirmed on a short after a pair-off of it",
+    CashOfRest "a cash settlement of a short after a pair-off of it",
+    PastPaired "a discharge dealt past a long that was lowered by a pair-off",
+    OfferAfterPairing "an offer of a member that would be failing but for a pair-off",
+    LessFine "a late fine that is lower because of a pair-off",
+    WholeShort "a short that is paired off whole",
+    WholeLong "a long that is paired off whole",
+    PairNoShort "a pair-off of position 0 refused",
+    PairNoLong "a pair-off with position 0 refused",
+    PairWide "a pair-off refused with a long that is one which fits in its low 16 bits alone",
+    MissingNothing "a pair-off refused with 11 where the quantity is 0",
+    MissingFromLong "a pair-off refused with 11 where the first position is long",
+    PairNothing "a pair-off of 0 units refused",
+    NothingFromLong "a pair-off of 0 units refused with 12 where the first position is long",
+    PairFromLong "a pair-off refused as its first position is long",
+    PairEarly "a pair-off of a short that is not due refused, with a due long of its holder",
+    EarlyNoPair "a pair-off refused with 17 where the second position is no due long of the holder",
+    PairNotDue "a pair-off refused with a long that is wrong in that it is not due alone",
+    PairMember "a pair-off refused with a due long that is wrong in its member alone",
+    PairKind "a pair-off refused with a due long that is wrong in its kind alone",
+    PairSecurity "a pair-off refused with a due long that is wrong in its security alone",
+    PairItself "a pair-off of a short with itself refused",
+    PairOtherShort "a pair-off refused with another due short of the holder",
+    NoPairInAuction "a pair-off refused with 34 where an auction runs on the short",
+    NoPairBeyond "a pair-off refused with 34 where the quantity exceeds what is free",
+    PairInAuction "a pair-off refused as an auction runs on the short",
+    BeyondInAuction "a pair-off refused with 18 where the quantity exceeds what is open",
+    PairBeyondFree "a pair-off refused for awards alone",
+    PairBeyondShort "a pair-off refused as it exceeds what is open of the short alone",
+    PairBeyondLong "a pair-off refused as it exceeds what is open of the long alone",
 }
 
 /// The prices that a history has given so far, by security.
@@ -158,6 +208,7 @@ impl Survey {
             self.call(&mut book, &mut prices, event);
         }
         self.reach_if(book.positions.len() == 1_024, State::MostPositions);
+        self.wholly_paired(&book);
     }
 
     fn reach_if(&mut self, holds: bool, state: State) {
@@ -200,6 +251,8 @@ impl Survey {
                 self.reach_if(award.price < reference, State::Cheaper);
                 self.confirmed(book, award.short);
             }
+            Event::Offer { short, offerer, .. } => self.offered(book, offerer, position(book, short).security),
+            Event::PairOff { short, long, quantity } => self.paired(book, Pairing { short, long, quantity }),
             Event::Cash { short } => {
                 let terms = Terms::of(book, short.into(), answer.pieces.iter().map(|piece| piece.long.into()));
                 let short = position(book, short);
@@ -211,6 +264,7 @@ impl Survey {
         }
         self.pieces(book, answer);
         self.kinds_of_pieces(book, answer);
+        self.discharged_beside(book, answer);
     }
 
     /// An accepted step, by the prices of its security, of which the last is today's.
@@ -247,6 +301,9 @@ impl Survey {
                 let is_second = book.attempts.contains(&(usize::from(short) - 1));
                 self.reach_if(is_second, State::SecondAttempt);
                 self.reach_if(is_seventeenth && !is_second, State::SeventeenthToday);
+            }
+            (Event::PairOff { short, long, quantity }, _) => {
+                self.refused_pair_off(book, Pairing { short, long, quantity }, refusal);
             }
             (Event::Attempt { .. }, Refusal::NotFree) => self.reach_if(true, State::NothingOpenAttempt),
             (Event::Cash { .. }, Refusal::NotFree) => self.reach_if(true, State::NothingOpenCash),
@@ -376,6 +433,7 @@ impl Survey {
             let security = &book.securities[short.security];
             if security.class == 1 {
                 self.late(book.day, short, security.latest_price);
+                self.late_after_pairing(short, security.latest_price);
             }
             let mut others = security.shorts.iter().filter(|&&other| other != at).map(|&other| &book.positions[other]);
             self.reach_if(others.any(|other| other.member == short.member && other.open() > 0), State::TwoShorts);

@@ -6,9 +6,14 @@ use super::pieces::Share;
 use crate::numbers::{counted, grouped};
 use second::book::Position;
 
-/// Delivered, bought in, settled in cash and open, in the order in which bars have them.
-pub const MANNERS: [(&str, &str); 4] =
-    [("delivered", "delivered"), ("bought-in", "bought in"), ("cash", "settled in cash"), ("open", "open")];
+/// Delivered, bought in, settled in cash, paired and open, in the order in which bars have them.
+pub const MANNERS: [(&str, &str); 5] = [
+    ("delivered", "delivered"),
+    ("bought-in", "bought in"),
+    ("cash", "settled in cash"),
+    ("paired", "paired"),
+    ("open", "open"),
+];
 
 const WIDTH: u32 = 220;
 const HEIGHT: u32 = 22;
@@ -21,13 +26,15 @@ const PATTERNS: &str = "\
 <rect width=\"7\" height=\"7\" fill=\"#f5c04a\"/><rect width=\"2.5\" height=\"7\" fill=\"#3d2a00\"/></pattern>\
 <pattern id=\"cash\" width=\"6\" height=\"6\" patternUnits=\"userSpaceOnUse\">\
 <rect width=\"6\" height=\"6\" fill=\"#c6e5f7\"/><circle cx=\"3\" cy=\"3\" r=\"1.5\" fill=\"#0b3a55\"/></pattern>\
+<pattern id=\"paired\" width=\"6\" height=\"6\" patternUnits=\"userSpaceOnUse\" patternTransform=\"rotate(45)\">\
+<rect width=\"6\" height=\"6\" fill=\"#cc79a7\"/><path d=\"M0 0H6V1.5H1.5V6H0Z\" fill=\"#4a1134\"/></pattern>\
 <pattern id=\"open\" width=\"8\" height=\"8\" patternUnits=\"userSpaceOnUse\">\
 <rect width=\"8\" height=\"8\" fill=\"#ffffff\"/></pattern>\
 </defs>";
 
 /// One swatch a manner, with its word; the bars take their patterns from here.
 pub fn legend() -> String {
-    let looks = ["plain", "striped", "dotted", "hollow"];
+    let looks = ["plain", "striped", "dotted", "crossed", "hollow"];
     let mut legend = String::from("<p class=\"legend\"><b>Bars of units:</b> ");
     for ((at, (id, word)), look) in MANNERS.iter().enumerate().zip(looks) {
         let patterns = if at == 0 { PATTERNS } else { "" };
@@ -42,24 +49,28 @@ pub fn legend() -> String {
 
 /// The bar of a short: its netted units by manner.
 pub fn of_short(position: &Position) -> String {
-    let &Position { netted, delivered, bought_in, cash, .. } = position;
-    let units = [delivered, bought_in, cash, position.open()];
+    let &Position { netted, delivered, bought_in, cash, paired, .. } = position;
+    let units = [delivered, bought_in, cash, paired, position.open()];
     let title = format!("{}: {}", counted(netted, "unit"), in_words(&units));
-    let starts = [0, delivered, delivered + bought_in, delivered + bought_in + cash];
-    bar(&title, netted, &starts, &units)
+    bar(&title, netted, &starts(&units), &units)
+}
+
+/// Where the units of each manner start, one after the other.
+fn starts<const COUNT: usize>(units: &[u32; COUNT]) -> [u32; COUNT] {
+    std::array::from_fn(|at| units[..at].iter().sum())
 }
 
 /// Where in a short's bar the next units of each manner stand. The units that a long got stand under the short's own.
-pub struct Starts([u32; 3]);
+pub struct Starts([u32; 4]);
 
 impl Starts {
     pub fn new(short: &Position) -> Starts {
-        Starts([0, short.delivered, short.delivered + short.bought_in])
+        Starts(starts(&[short.delivered, short.bought_in, short.cash, short.paired]))
     }
 
     /// The bar of what a long got from the short, at the short's scale.
     pub fn bar(&mut self, netted: u32, share: &Share) -> String {
-        let units = [share.delivered, share.bought_in, share.cash];
+        let units = [share.delivered, share.bought_in, share.cash, share.paired];
         let title = format!("{}: {}", counted(share.units(), "unit"), in_words(&units));
         let bar = bar(&title, netted, &self.0, &units);
         self.0.iter_mut().zip(units).for_each(|(start, units)| *start += units);

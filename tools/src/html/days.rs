@@ -6,7 +6,7 @@ use crate::kinds;
 use crate::numbers::{counted, grouped};
 use crate::played::{Done, Kind, Played, Refused, Step};
 use crate::words::{award_words, call, charge_words, is_idle};
-use second::book::{Charge, Piece};
+use second::book::{Charge, Manner, Piece};
 use second::events::Event;
 
 /// The most late fines of a close that are shown with their figures: a book may have hundreds at each of its closes.
@@ -128,10 +128,15 @@ fn list(class: &str, items: impl Iterator<Item = String>) -> String {
 }
 
 fn piece_item(played: &Played, event: usize, place: usize, piece: &Piece) -> String {
-    let &Piece { short, long, quantity, cents, .. } = piece;
+    let &Piece { short, long, quantity, manner, cents } = piece;
     let [from, to] = [short, long].map(|number| kinds::holder(played.position(number)));
+    let [before, between] = match manner {
+        // Nothing changes hands.
+        Manner::Paired => ["of", "paired with"],
+        _ => ["from", "to"],
+    };
     format!(
-        "{} {} from position {} ({from}) to position {} ({to}), {} {}",
+        "{} {} {before} position {} ({from}) {between} position {} ({to}), {} {}",
         span(format_args!("p{event}.{place}.quantity"), quantity),
         if quantity == 1 { "unit" } else { "units" },
         span(format_args!("p{event}.{place}.short"), short),

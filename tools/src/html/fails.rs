@@ -13,9 +13,9 @@ pub fn section(played: &Played, pieces: &Pieces) -> String {
     let mut page = String::from("<section id=\"fails\"><h2>Fails and positions by security</h2>\n");
     page += &bars::legend();
     page +=
-        "<p class=\"note\">A fail is a short that was not delivered whole on its delivery day. Its bar is its netted \
-             units; below it, each long has the units that it got from this short, drawn under the short&apos;s own. \
-             Prices are in cents a unit.</p>\n";
+        "<p class=\"note\">A fail is a short that was not discharged whole, by deliveries and pair-offs, on its delivery \
+             day. Its bar is its netted units; below it, each long has the units that it got from this short or was paired \
+             with, drawn under the short&apos;s own. Prices are in cents a unit.</p>\n";
     for place in 0..played.register.len() {
         page += &security(played, pieces, place);
     }
@@ -62,6 +62,7 @@ fn positions(played: &Played, pieces: &Pieces, security: usize, numbers: &[u16])
         "#Delivered",
         "#Bought in",
         "#Cash",
+        "#Paired",
         "#Open",
         "At the end",
     ];
@@ -75,7 +76,7 @@ fn positions(played: &Played, pieces: &Pieces, security: usize, numbers: &[u16])
 
 fn row(played: &Played, pieces: &Pieces, number: u16) -> String {
     let position = played.position(number);
-    let &Position { member, side, netted, delivered, bought_in, cash, delivery_day, reference_price, .. } = position;
+    let &Position { member, side, netted, delivered, bought_in, cash, paired, .. } = position;
     let state = match pieces.is_fail(number) {
         true => format!("<a href=\"#f{number}\">fail: {}</a>", pieces.state(number)),
         false => pieces.state(number),
@@ -85,12 +86,13 @@ fn row(played: &Played, pieces: &Pieces, number: u16) -> String {
         format!("<td><span data-figure=\"s{number}.side\">{}</span></td>", side_name(side)),
         cell(format_args!("s{number}.member"), member),
         format!("<td>{}</td>", kinds::name(position.kind)),
-        mention(delivery_day),
-        mention(reference_price),
+        mention(position.delivery_day),
+        mention(position.reference_price),
         cell(format_args!("s{number}.netted"), netted),
         cell(format_args!("s{number}.delivered"), delivered),
         cell(format_args!("s{number}.bought_in"), bought_in),
         cell(format_args!("s{number}.cash"), cash),
+        cell(format_args!("s{number}.paired"), paired),
         cell(format_args!("s{number}.open"), position.open()),
         format!("<td class=\"w\">{state}</td></tr>\n"),
     ]
@@ -99,7 +101,8 @@ fn row(played: &Played, pieces: &Pieces, number: u16) -> String {
 
 fn fail(played: &Played, pieces: &Pieces, number: u16) -> String {
     let short = played.position(number);
-    let names = ["From, to", "Units by manner", "#Delivered", "#Bought in", "#Cash", "#Open", "#Units", "#Cents paid"];
+    let by_manner = ["#Delivered", "#Bought in", "#Cash", "#Paired"];
+    let names = [&["From, to", "Units by manner"], &by_manner[..], &["#Open", "#Units", "#Cents paid"]].concat();
     let mut page = format!(
         "<div class=\"wide fail\" id=\"f{number}\"><table><caption>Fail of position {}: {}</caption>{}<tbody>\n",
         grouped(number),
@@ -124,12 +127,12 @@ fn title(short: &Position, state: &str) -> String {
 }
 
 fn short_row(number: u16, short: &Position, cents: u64) -> String {
-    let &Position { netted, delivered, bought_in, cash, .. } = short;
+    let &Position { netted, delivered, bought_in, cash, paired, .. } = short;
     let holder = kinds::holder(short);
     [
         format!("<tr class=\"short\"><th scope=\"row\">short {}, {holder}</th>", position_link(number)),
         format!("<td class=\"bar\">{}</td>", bars::of_short(short)),
-        [delivered, bought_in, cash, short.open(), netted].map(mention).concat(),
+        [delivered, bought_in, cash, paired, short.open(), netted].map(mention).concat(),
         mention(cents),
         "</tr>\n".to_string(),
     ]
@@ -137,11 +140,11 @@ fn short_row(number: u16, short: &Position, cents: u64) -> String {
 }
 
 fn long_row(played: &Played, share: &Share, bar: &str) -> String {
-    let &Share { long, delivered, bought_in, cash, cents } = share;
+    let &Share { long, delivered, bought_in, cash, paired, cents } = share;
     let holder = kinds::holder(played.position(long));
     [
         format!("<tr><th scope=\"row\">→ long {}, {holder}</th><td class=\"bar\">{bar}</td>", position_link(long)),
-        [delivered, bought_in, cash].map(mention).concat(),
+        [delivered, bought_in, cash, paired].map(mention).concat(),
         "<td></td>".to_string(),
         mention(share.units()),
         mention(cents),

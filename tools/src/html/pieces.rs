@@ -17,6 +17,7 @@ pub struct Share {
     pub delivered: u32,
     pub bought_in: u32,
     pub cash: u32,
+    pub paired: u32,
     pub cents: u64,
 }
 
@@ -26,12 +27,13 @@ impl Share {
             Manner::Delivered => self.delivered += piece.quantity,
             Manner::BoughtIn => self.bought_in += piece.quantity,
             Manner::Cash => self.cash += piece.quantity,
+            Manner::Paired => self.paired += piece.quantity,
         }
         self.cents += piece.cents;
     }
 
     pub fn units(&self) -> u32 {
-        self.delivered + self.bought_in + self.cash
+        self.delivered + self.bought_in + self.cash + self.paired
     }
 }
 
@@ -50,14 +52,15 @@ impl<'a> Pieces<'a> {
         &self.of[usize::from(number) - 1]
     }
 
-    /// A short fails where it is due and was not delivered whole on its delivery day.
+    /// A short fails where it is due and was not discharged whole on its delivery day. A pair-off discharges, as a delivery
+    /// does.
     pub fn is_fail(&self, number: u16) -> bool {
         let position = self.played.position(number);
         let is_due = position.is_due(self.played.book.day);
-        position.side == Side::Short && is_due && !self.is_delivered_on_its_day(number)
+        position.side == Side::Short && is_due && !self.is_discharged_on_its_day(number)
     }
 
-    fn is_delivered_on_its_day(&self, number: u16) -> bool {
+    fn is_discharged_on_its_day(&self, number: u16) -> bool {
         let &Position { delivery_day, netted, .. } = self.played.position(number);
         let on_its_day = self.of(number).iter().filter(|(step, _)| step.day == delivery_day);
         on_its_day.map(|(_, piece)| piece.quantity).sum::<u32>() == netted
@@ -81,12 +84,22 @@ impl<'a> Pieces<'a> {
         let position = self.played.position(number);
         let last = self.of(number).last().map_or(0, |(step, _)| step.day);
         match (position.open(), position.r(self.played.book.day)) {
-            (0, _) if self.is_delivered_on_its_day(number) => "delivered on its day".to_string(),
+            (0, _) if self.is_discharged_on_its_day(number) => format!("{} on its day", how_discharged(position)),
             (0, _) => format!("settled on day {}", grouped(last)),
             (_, None) => format!("due on day {}", grouped(position.delivery_day)),
             (_, Some(0)) => "due today".to_string(),
             (_, Some(1)) => "open, 1 day late".to_string(),
             (_, Some(days)) => format!("open, {} days late", grouped(days)),
         }
+    }
+}
+
+/// How all of a position was discharged. A pair-off is no delivery, and a long may be due on the day of another's buy-in.
+fn how_discharged(position: &Position) -> &'static str {
+    let &Position { netted, delivered, paired, .. } = position;
+    match [delivered, paired].map(|units| units == netted) {
+        [true, _] => "delivered",
+        [_, true] => "paired",
+        _ => "settled",
     }
 }

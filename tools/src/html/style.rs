@@ -37,7 +37,7 @@ thead th.n { white-space: normal; }
 .items thead th:nth-child(6) { width: 19%; }
 .fail { border-left: 4px solid #1a1a1a; padding-left: .75rem; }
 .fail td { vertical-align: middle; }
-.fail thead th, .fail thead th.n { width: 5rem; white-space: nowrap; }
+.fail thead th, .fail thead th.n { width: 4.25rem; white-space: nowrap; }
 .fail thead th:nth-child(1) { width: 12rem; }
 .fail thead th:nth-child(2) { width: 236px; }
 .fail .short th, .fail .short td { border-bottom: 1.5px solid #767676; font-weight: 600; }
@@ -76,7 +76,7 @@ ul { margin: .15rem 0 .25rem; padding-left: 1.1rem; }
   h1, h2, h3, caption, thead, h2 + .note, h3 + .note { break-after: avoid; }
   .items { min-width: 0; }
   .day { min-width: 0; }
-  .fail thead th, .fail thead th.n { width: auto; }
+  .fail thead th, .fail thead th.n { width: auto; white-space: normal; }
   .refused td, .refused th { background: none; }
 }
 ";

@@ -54,7 +54,7 @@ fn event(number: usize, kind: u8, body: &[u8]) -> Result<Event, String> {
     let file = [&[1, 0, WIDTH as u8, 0, kind], body].concat();
     match events::read(&file).as_deref().map_err(|located| located.refusal) {
         Ok(&[event]) => Ok(event),
-        Err(Refusal::Kind) => Err(format!("event {number}: the kind is {kind} and not 1 to 9")),
+        Err(Refusal::Kind) => Err(format!("event {number}: the kind is {kind} and not 1 to 10")),
         _ => Err(format!("event {number}: a spare byte is not zero")),
     }
 }

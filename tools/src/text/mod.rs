@@ -12,6 +12,7 @@
 //! award POSITION
 //! confirm AWARD
 //! cash POSITION
+//! pair SHORT LONG QUANTITY
 //! close
 //! ```
 //!

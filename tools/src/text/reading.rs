@@ -139,6 +139,7 @@ fn event(word: &str, fields: &[&str]) -> Result<Event, String> {
         "award" => Event::Award { short: only("position")? },
         "confirm" => Event::Confirm { award: only("award")? },
         "cash" => Event::Cash { short: only("position")? },
+        "pair" => pair_off(named(word, fields, ["short", "long", "quantity"])?)?,
         _ => return Err(format!("unknown word {}", quoted(word))),
     })
 }
@@ -193,6 +194,11 @@ fn offer([position, offerer, quantity, price]: [Field; 4]) -> Result<Event, Stri
         quantity: quantity.number()?,
         price: price.number()?,
     })
+}
+
+/// The long stands in the field that other events have for a price, and may be as large as one.
+fn pair_off([short, long, quantity]: [Field; 3]) -> Result<Event, String> {
+    Ok(Event::PairOff { short: short.number()?, long: long.number()?, quantity: quantity.number()? })
 }
 
 /// A field's name, and the word in its place.

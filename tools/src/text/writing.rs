@@ -36,6 +36,7 @@ fn line(event: &Event) -> String {
         Event::Confirm { award } => format!("confirm {award}"),
         Event::Cash { short } => format!("cash {short}"),
         Event::Close => "close".to_string(),
+        Event::PairOff { short, long, quantity } => format!("pair {short} {long} {quantity}"),
     }
 }
 

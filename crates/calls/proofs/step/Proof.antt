@@ -59,6 +59,12 @@ enum-told c = search needs
 close-requires : tie.Need-close-requires
 close-requires c κs = search needs
 
+enum-known-e-9 : tie.Need-enum-known-e-9
+enum-known-e-9 c = search needs
+
+pair-off-requires : tie.Need-pair-off-requires
+pair-off-requires c κs = search needs
+
 returns : tie.Need-returns
 returns c =
     let k = c .before .before .before in
@@ -110,6 +116,11 @@ returns-9 c =
     let s = k .before .before in
     rw (k .enum-told .given .1) (bare-on _ _ _ _ _ _ _ _ _ refl (s .pre .1) (c .close .ensures))
 
+returns-10 : tie.Need-returns-10
+returns-10 c =
+    let k = c .before .before .before .before .before .before in
+    rw (k .e9 .given .1) (c .pair-off .ensures _ (k .before .before .pre .0))
+
 pub step-spec : {M : Type 1} → statement M
 step-spec =
     tie.close
@@ -132,6 +143,8 @@ step-spec =
     cash-requires
     enum-told
     close-requires
+    enum-known-e-9
+    pair-off-requires
     returns
     returns-2
     returns-3
@@ -140,4 +153,5 @@ step-spec =
     returns-6
     returns-7
     returns-8
-    returns-9)
+    returns-9
+    returns-10)

@@ -44,7 +44,11 @@ returns-9 c = rw (c .match .keys9)
 
 returns-10 : tie.Need-returns-10
 unfolding eventFrom
-returns-10 c =
+returns-10 c = rw (c .match .keys10)
+
+returns-11 : tie.Need-returns-11
+unfolding eventFrom
+returns-11 c =
     others Event.Close (drop 1 (eventRows (c .before .args .f))) (c .before .args .kind) (c .match .rest)
 
 pub event-from-spec : {M : Type 1} → statement M
@@ -60,4 +64,5 @@ event-from-spec =
     returns-7
     returns-8
     returns-9
-    returns-10)
+    returns-10
+    returns-11)

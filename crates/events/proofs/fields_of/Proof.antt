@@ -59,6 +59,12 @@ enum-told c = search needs
 fields-with-requires-9 : tie.Need-fields-with-requires-9
 fields-with-requires-9 c κs = tt
 
+enum-known-event-9 : tie.Need-enum-known-event-9
+enum-known-event-9 c = search needs
+
+fields-with-requires-10 : tie.Need-fields-with-requires-10
+fields-with-requires-10 c κs = tt
+
 returns : tie.Need-returns
 unfolding fieldsOf
 returns c =
@@ -113,6 +119,12 @@ returns-9 c =
     let same = c .fields-with9 .ensures .0 ∙ sym (ap fieldsOf (c .before .enum-told .given .1)) in
     (same, subst InWidth same (c .fields-with9 .ensures .1))
 
+returns-10 : tie.Need-returns-10
+unfolding fieldsOf
+returns-10 c =
+    let same = c .fields-with10 .ensures .0 ∙ sym (ap fieldsOf (c .before .before .event9 .given .1)) in
+    (same, subst InWidth same (c .fields-with10 .ensures .1))
+
 pub fields-of-spec : {M : Type 1} → statement M
 fields-of-spec =
     tie.close
@@ -135,6 +147,8 @@ fields-of-spec =
     fields-with-requires-8
     enum-told
     fields-with-requires-9
+    enum-known-event-9
+    fields-with-requires-10
     returns
     returns-2
     returns-3
@@ -143,4 +157,5 @@ fields-of-spec =
     returns-6
     returns-7
     returns-8
-    returns-9)
+    returns-9
+    returns-10)

@@ -31,7 +31,10 @@ returns-9 : tie.Need-returns-9
 returns-9 c = arm 9 _ (c .match .keys9)
 
 returns-10 : tie.Need-returns-10
-returns-10 c = last-arm _ (c .match .rest)
+returns-10 c = arm 10 _ (c .match .keys10)
+
+returns-11 : tie.Need-returns-11
+returns-11 c = last-arm _ (c .match .rest)
 
 pub masks-of-spec : {M : Type 1} → statement M
 masks-of-spec =
@@ -46,4 +49,5 @@ masks-of-spec =
     returns-7
     returns-8
     returns-9
-    returns-10)
+    returns-10
+    returns-11)

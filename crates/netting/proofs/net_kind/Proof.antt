@@ -25,7 +25,7 @@ abbrev Inv-loop : tie.InvT-loop
 Inv-loop rows₀ totals day member kind securities held n₀ security₀ rows n security =
     Filling (runTable (ofSecurity (day .0) (totalsOf totals) member kind securities) securities rows₀ held) (eachFrom (ofSecurity (day .0) (totalsOf totals) member kind securities) securities security) n (rowsOf rows)
     × (1 ≤ security)
-    × (length rows ≡ 11264)
+    × (length rows ≡ 12288)
 
 abbrev μ-loop : tie.MeasureT-loop
 μ-loop rows₀ totals day member kind securities held n₀ security₀ rows n security = securities + 1 - security

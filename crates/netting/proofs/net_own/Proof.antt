@@ -17,7 +17,7 @@ abbrev Inv-loop : tie.InvT-loop
 Inv-loop rows₀ own day securities held n₀ member₀ rows n member =
     Filling (runTable (ownPositions (day .0) (totalsOf own) securities) 63 rows₀ held) (eachFrom (ownPositions (day .0) (totalsOf own) securities) 63 member) n (rowsOf rows)
     × (1 ≤ member)
-    × (length rows ≡ 11264)
+    × (length rows ≡ 12288)
 
 abbrev μ-loop : tie.MeasureT-loop
 μ-loop rows₀ own day securities held n₀ member₀ rows n member = 64 - member

@@ -27,7 +27,7 @@ Inv-loop rows₀ sheet₀ count day short quantity manner start place own dealt�
     (record { items = rowsOf rows; shares = piecesOf manner sheet; dealt = dealt; left = left; place = i })
     × (i₀ ≤ i)
     × (i ≡ i₀ → getD (rowsOf rows) i noPosition .settlement .0 ≡ settlement)
-    × (length rows ≡ 11264)
+    × (length rows ≡ 12288)
     × (length sheet ≡ 4096)
     × ClosedBefore (own .security) (rowsOf rows) i
     × (0 < left)
@@ -41,7 +41,7 @@ Inv-deal rows₀ sheet₀ count day short quantity manner start place own dealt�
     Walk manner short (day .0) (own .security) count
     (record { items = rowsOf rows₀; shares = piecesOf manner sheet₀; dealt = dealt₀; left = left₀; place = i₀ })
     (record { items = rowsOf rows; shares = piecesOf manner sheet; dealt = dealt; left = left; place = i })
-    × (length rows ≡ 11264)
+    × (length rows ≡ 12288)
     × (length sheet ≡ 4096)
     × ClosedBefore (own .security) (rowsOf rows) i
     × (0 < left)

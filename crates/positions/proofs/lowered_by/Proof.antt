@@ -25,6 +25,12 @@ enum-told-3 c = search needs
 add-after-3 : tie.Need-add-after-3
 add-after-3 c = search needs
 
+enum-told-4 : tie.Need-enum-told-4
+enum-told-4 c = search needs
+
+add-after-4 : tie.Need-add-after-4
+add-after-4 c = search needs
+
 returns : tie.Need-returns
 unfolding loweredBy
 returns c = simp (c .before .enum-told .given .1, add-zero)
@@ -37,6 +43,10 @@ returns-3 : tie.Need-returns-3
 unfolding loweredBy
 returns-3 c = simp (c .before .enum-told3 .given .1, add-zero)
 
+returns-4 : tie.Need-returns-4
+unfolding loweredBy
+returns-4 c = simp (c .before .enum-told4 .given .1, add-zero)
+
 pub lowered-by-spec : {M : Type 1} → statement M
 lowered-by-spec =
     tie.close
@@ -48,6 +58,9 @@ lowered-by-spec =
     add-after-2
     enum-told-3
     add-after-3
+    enum-told-4
+    add-after-4
     returns
     returns-2
-    returns-3)
+    returns-3
+    returns-4)

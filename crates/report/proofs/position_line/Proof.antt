@@ -19,26 +19,26 @@ returns c =
     none-wrote LINE (positionLine (a .number) (a .position)) (a .page .now) (c .if1 .taken)
 
 -- the places at which the numbers are known, the first of them are put, and the rest of them are
-abbrev enough : tie.After-struct-known6 → tie.Else1
-enough c = c .before .before .before .before .before .before
+abbrev enough : tie.After-struct-known7 → tie.Else1
+enough c = c .before .before .before .before .before .before .before
 
-abbrev start : tie.After-struct-known6 → tie.Start
+abbrev start : tie.After-struct-known7 → tie.Start
 start c = enough c .before .before
 
-abbrev begun : tie.After-slice-known2 → tie.After-struct-known6
+abbrev begun : tie.After-slice-known2 → tie.After-struct-known7
 begun m = m .before .before .before .before .before
 
 abbrev sided : tie.After-slice-known3 → tie.After-side-of
 sided e = e .before .before .before .before .before
 
 -- the position's name, and its figures
-abbrev names : tie.After-struct-known6 → List ℕ
+abbrev names : tie.After-struct-known7 → List ℕ
 names c =
     let a = start c .args in
     a .number ∷ a .position .member ∷ []
 
 abbrev figures : Position → List ℕ
-figures p = p .netted ∷ p .delivered ∷ p .bought ∷ p .cash ∷ p .unsettled ∷ []
+figures p = p .netted ∷ p .delivered ∷ p .bought ∷ p .cash ∷ p .paired ∷ p .unsettled ∷ []
 
 cast-t13 : tie.Need-cast-t13
 cast-t13 c = search needs
@@ -58,25 +58,28 @@ cast-t15 c = search needs
 cast-t16 : tie.Need-cast-t16
 cast-t16 c = omega (arith, c .struct-known6 .given)
 
+cast-t17 : tie.Need-cast-t17
+cast-t17 c = omega (arith, c .struct-known7 .given)
+
 slice-write-page : tie.Need-slice-write-page
 slice-write-page c = search needs
 
 -- the stored letter leaves the page as long as it was
-long : (c : tie.After-struct-known6) → 80 ≤ length (set (start c .args .page .now) 0 115)
+long : (c : tie.After-struct-known7) → 80 ≤ length (set (start c .args .page .now) 0 115)
 long c = omega (arith, length-set (start c .args .page .now) 0 115, enough c .if1 .left)
 
--- the name has at most 10 bytes, the figures at most 55, and the line at most 80
-named-few : (c : tie.After-struct-known6) → length (numbers (names c)) ≤ 10
+-- the name has at most 10 bytes, the figures at most 66, and the line at most 80
+named-few : (c : tie.After-struct-known7) → length (numbers (names c)) ≤ 10
 named-few c =
     named-most (start c .args .number) (start c .args .position .member) (start c .fits .number .fits) (omega arith)
 
-figures-few : (c : tie.After-struct-known6) → length (numbers (figures (start c .args .position))) ≤ 55
+figures-few : (c : tie.After-struct-known7) → length (numbers (figures (start c .args .position))) ≤ 66
 figures-few c =
-    figures-most (figures (start c .args .position)) (omega (arith, c .struct-known6 .given), (omega (arith, c .struct-known6 .given), (omega (arith, c .struct-known6 .given), (omega (arith, c .struct-known6 .given), (omega (arith, c .struct-known6 .given), tt)))))
+    figures-most (figures (start c .args .position)) (omega (arith, c .struct-known7 .given), (omega (arith, c .struct-known7 .given), (omega (arith, c .struct-known7 .given), (omega (arith, c .struct-known7 .given), (omega (arith, c .struct-known7 .given), (omega (arith, c .struct-known7 .given), tt))))))
 
-brief : (c : tie.After-struct-known6) → length (positionLine (start c .args .number) (start c .args .position)) ≤ LINE
+brief : (c : tie.After-struct-known7) → length (positionLine (start c .args .number) (start c .args .position)) ≤ LINE
 brief c =
-    position-most (start c .args .number) (start c .args .position) (start c .fits .number .fits) (omega (arith, c .struct-known6 .given)) (omega (arith, c .struct-known6 .given)) (omega (arith, c .struct-known6 .given)) (omega (arith, c .struct-known6 .given)) (omega (arith, c .struct-known6 .given)) (omega (arith, c .struct-known6 .given))
+    position-most (start c .args .number) (start c .args .position) (start c .fits .number .fits) (omega (arith, c .struct-known7 .given)) (omega (arith, c .struct-known7 .given)) (omega (arith, c .struct-known7 .given)) (omega (arith, c .struct-known7 .given)) (omega (arith, c .struct-known7 .given)) (omega (arith, c .struct-known7 .given)) (omega (arith, c .struct-known7 .given))
 
 sub-put-numbers : tie.Need-sub-put-numbers
 sub-put-numbers c = omega (arith, long c)
@@ -175,7 +178,7 @@ long₃ e =
     let d = e .before .before .put-numbers2 in
     omega (arith, back-length (1 + o .before .before .before .put-numbers .result + 2) (page₂ o) (d .last .0) (d .kept .0), long₂ o)
 
-little : (e : tie.After-slice-known3) → end e ≤ 68
+little : (e : tie.After-slice-known3) → end e ≤ 79
 little e =
     let m = sided e .before in
     omega (arith, e .before .before .put-numbers2 .ensures .bytes, figures-few (begun m), short m)
@@ -201,15 +204,15 @@ whole e =
     let r = m .before .before .put-numbers .result in
     let d = e .before .before .put-numbers2 in
     let t₁ : List ℕ = 115 ∷ numbers (a .number ∷ p .member ∷ []) in
-    let five : List ℕ = numbers (figures p) in
+    let six : List ℕ = numbers (figures p) in
     let s : ℕ = o .side-of .result in
     let w₁ = put-byte t₁ page (page₁ m) (1 + r) (named m) 32 (omega (arith, short m, long₁ m)) in
     let w₂ = put-byte (t₁ ++ (32 ∷ [])) page (set (page₁ m) (1 + r) 32) (1 + r + 1) w₁ s (omega (arith, length-set (page₁ m) (1 + r) 32, short m, long₁ m)) in
     let w₃ = put-count (t₁ ++ (32 ∷ []) ++ (s ∷ [])) page (page₂ o) (1 + r + 1 + 1) (1 + r + 2) (omega arith) w₂ in
-    let w₄ = put-lent (t₁ ++ (32 ∷ []) ++ (s ∷ [])) page (page₂ o) (1 + r + 2) w₃ five (d .last .0) (d .result) (d .ensures) in
-    let w₅ = put-byte (t₁ ++ (32 ∷ []) ++ (s ∷ []) ++ five) page (page₃ e) (end e) w₄ 10 (omega (arith, little e, long₃ e)) in
-    put-text (t₁ ++ (32 ∷ []) ++ (s ∷ []) ++ five ++ (10 ∷ [])) (positionLine (a .number) p) page (set (page₃ e) (end e) 10) (end e + 1)
-    (ap (λ (x : ℕ). t₁ ++ (32 ∷ []) ++ (x ∷ []) ++ five ++ (10 ∷ [])) (o .side-of .ensures) ∙ position-text (a .number) p) w₅
+    let w₄ = put-lent (t₁ ++ (32 ∷ []) ++ (s ∷ [])) page (page₂ o) (1 + r + 2) w₃ six (d .last .0) (d .result) (d .ensures) in
+    let w₅ = put-byte (t₁ ++ (32 ∷ []) ++ (s ∷ []) ++ six) page (page₃ e) (end e) w₄ 10 (omega (arith, little e, long₃ e)) in
+    put-text (t₁ ++ (32 ∷ []) ++ (s ∷ []) ++ six ++ (10 ∷ [])) (positionLine (a .number) p) page (set (page₃ e) (end e) 10) (end e + 1)
+    (ap (λ (x : ℕ). t₁ ++ (32 ∷ []) ++ (x ∷ []) ++ six ++ (10 ∷ [])) (o .side-of .ensures) ∙ position-text (a .number) p) w₅
 
 same-length : tie.Need-same-length
 same-length c =
@@ -234,6 +237,7 @@ position-line-spec =
     cast-t14
     cast-t15
     cast-t16
+    cast-t17
     slice-write-page
     sub-put-numbers
     part-put-numbers-start

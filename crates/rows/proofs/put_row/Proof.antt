@@ -108,12 +108,6 @@ mul-rows-10 c = search needs
 element-write-rows-10 : tie.Need-element-write-rows-10
 element-write-rows-10 c = search needs
 
-kind-number-requires : tie.Need-kind-number-requires
-kind-number-requires c κs = search needs
-
-cast-rows-4 : tie.Need-cast-rows-4
-cast-rows-4 c = search needs
-
 add-rows-10 : tie.Need-add-rows-10
 add-rows-10 c = search needs
 
@@ -122,6 +116,21 @@ mul-rows-11 c = search needs
 
 element-write-rows-11 : tie.Need-element-write-rows-11
 element-write-rows-11 c = search needs
+
+kind-number-requires : tie.Need-kind-number-requires
+kind-number-requires c κs = search needs
+
+cast-rows-4 : tie.Need-cast-rows-4
+cast-rows-4 c = search needs
+
+add-rows-11 : tie.Need-add-rows-11
+add-rows-11 c = search needs
+
+mul-rows-12 : tie.Need-mul-rows-12
+mul-rows-12 c = search needs
+
+element-write-rows-12 : tie.Need-element-write-rows-12
+element-write-rows-12 c = search needs
 
 returns : tie.Need-returns
 returns c =
@@ -167,9 +176,12 @@ put-row-spec =
     add-rows-9
     mul-rows-10
     element-write-rows-10
-    kind-number-requires
-    cast-rows-4
     add-rows-10
     mul-rows-11
     element-write-rows-11
+    kind-number-requires
+    cast-rows-4
+    add-rows-11
+    mul-rows-12
+    element-write-rows-12
     returns)

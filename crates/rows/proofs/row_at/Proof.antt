@@ -116,9 +116,18 @@ mul-t55 c = search needs
 element-copy-out-t58 : tie.Need-element-copy-out-t58
 element-copy-out-t58 c = search needs
 
+add-t59 : tie.Need-add-t59
+add-t59 c = search needs
+
+mul-t60 : tie.Need-mul-t60
+mul-t60 c = search needs
+
+element-copy-out-t63 : tie.Need-element-copy-out-t63
+element-copy-out-t63 c = search needs
+
 returns : tie.Need-returns
 returns c =
-    let k = c .before .before .before .before .before .before .before .before .before .before in
+    let k = c .before .before .before .before .before .before .before .before .before .before .before in
     rw (k .kind-of .ensures) (sym (row-is _ _ (k .before .before .pre)))
 
 pub row-at-spec : {M : Type 1} → statement M
@@ -162,4 +171,7 @@ row-at-spec =
     add-t54
     mul-t55
     element-copy-out-t58
+    add-t59
+    mul-t60
+    element-copy-out-t63
     returns)

@@ -131,6 +131,14 @@ enum-told c = search needs
 close-requires : tie.Need-close-requires Inv-loop μ-loop
 close-requires c κs = held (c .before .before .before .before .before .before)
 
+enum-known-event-9 : tie.Need-enum-known-event-9 Inv-loop μ-loop
+enum-known-event-9 c = search needs
+
+pair-off-requires : tie.Need-pair-off-requires Inv-loop μ-loop
+pair-off-requires c κs =
+    let e = c .before .before .before .before .before .before .before in
+    ((_, held e), long e)
+
 -- each arm makes the call of its kind: what they come to where they meet
 stepped : (c : tie.At-match-came Inv-loop μ-loop)
     → Stepped (turn (c .before) .loop .last .core) (tables (turn (c .before))) (c .before .event-at .result) (turn (c .before) .loop .sheet) (c .match .last .core) (numbers (c .match .rows) (c .match .trades) (c .match .awards) (c .match .counts)) (c .match .sheet) (c .match .last .outcome) (c .match .last .pieces)
@@ -153,7 +161,9 @@ stepped c =
     (λ w. rw (w .8, w .9, w .10, w .11, w .12, w .13) (stepped-on _ _ _ _ _ _ _ _ _ (w .1 .given .1) _ (w .7 .ensures _ h)))
     (⊎-elim
     (λ w. rw (w .7, w .8, w .9, w .10, w .11, w .12) (stepped-on _ _ _ _ _ _ _ _ _ (w .1 .given .1) _ (w .6 .ensures _ _ h)))
-    (λ w. rw (w .7, w .8, w .9, w .10, w .11, w .12) (stepped-bare _ _ _ _ _ _ _ _ _ (w .1 .given .1) refl l (w .6 .ensures))))))))))
+    (⊎-elim
+    (λ w. rw (w .7, w .8, w .9, w .10, w .11, w .12) (stepped-bare _ _ _ _ _ _ _ _ _ (w .1 .given .1) refl l (w .6 .ensures)))
+    (λ w. rw (w .8, w .9, w .10, w .11, w .12, w .13) (stepped-on _ _ _ _ _ _ _ _ _ (w .1 .given .1) _ (w .7 .ensures _ h)))))))))))
     (c .match .came)
 
 add-next : tie.Need-add-next Inv-loop μ-loop
@@ -245,6 +255,8 @@ play-events-spec =
     cash-requires
     enum-told
     close-requires
+    enum-known-event-9
+    pair-off-requires
     add-next
     sub-answer-lines
     part-answer-lines-start

@@ -33,7 +33,7 @@ pub const KNOWN: [Known; 15] = [
             ("close", "0 0"),
         ],
         refusals: &[0, 11],
-        end: "s 1 1 D 10 0 6 0 4\ns 2 2 R 10 0 6 0 4\na 0 100300\na 1 -300\na 4 -100000\n",
+        end: "s 1 1 D 10 0 6 0 0 4\ns 2 2 R 10 0 6 0 0 4\na 0 100300\na 1 -300\na 4 -100000\n",
     },
     // 4 times -50 and 6 times 100.
     Known {
@@ -52,7 +52,7 @@ pub const KNOWN: [Known; 15] = [
             ("confirm 3", "11 0"),
         ],
         refusals: &[0, 11],
-        end: "s 1 1 D 10 0 10 0 0\ns 2 2 R 10 0 10 0 0\na 0 400\na 1 -400\n",
+        end: "s 1 1 D 10 0 10 0 0 0\ns 2 2 R 10 0 10 0 0 0\na 0 400\na 1 -400\n",
     },
     // 6 times -200, 2 times 0 and 4 times 200. The 8 units left are open and free.
     Known {
@@ -74,7 +74,7 @@ pub const KNOWN: [Known; 15] = [
             ("delivery 1 8", "0 8\np 1 2 8 0"),
         ],
         refusals: &[0, 24],
-        end: "s 1 1 D 20 8 12 0 0\ns 2 2 R 20 8 12 0 0\na 0 -400\na 1 400\n",
+        end: "s 1 1 D 20 8 12 0 0 0\ns 2 2 R 20 8 12 0 0 0\na 0 -400\na 1 400\n",
     },
     // The auction is over all the same. The late fine of day 8 is 1 cent; the awards of day 9 are numbered from 1
     // again.
@@ -98,7 +98,7 @@ pub const KNOWN: [Known; 15] = [
             ("confirm 1", "0 10\np 1 2 10 0"),
         ],
         refusals: &[0, 11, 18, 20],
-        end: "s 1 1 D 10 0 10 0 0\ns 2 2 R 10 0 10 0 0\na 0 1\na 1 -1\n",
+        end: "s 1 1 D 10 0 10 0 0 0\ns 2 2 R 10 0 10 0 0 0\na 0 1\na 1 -1\n",
     },
     // 2 times 100, 3 times 200 and 3 times 300.
     Known {
@@ -120,7 +120,7 @@ pub const KNOWN: [Known; 15] = [
             ("confirm 4", "11 0"),
         ],
         refusals: &[0, 11],
-        end: "s 1 1 D 8 0 8 0 0\ns 2 2 R 8 0 8 0 0\na 0 1700\na 1 -1700\n",
+        end: "s 1 1 D 8 0 8 0 0 0\ns 2 2 R 8 0 8 0 0 0\na 0 1700\na 1 -1700\n",
     },
     // Award 1 is of member 4, award 2 of member 3 and award 3, of 2 units, of member 5. 4 times 100 and 3 times 200.
     Known {
@@ -140,7 +140,7 @@ pub const KNOWN: [Known; 15] = [
             ("close", "0 0"),
         ],
         refusals: &[0],
-        end: "s 1 1 D 9 0 7 0 2\ns 2 2 R 9 0 7 0 2\na 0 101000\na 1 -1000\na 5 -100000\n",
+        end: "s 1 1 D 9 0 7 0 0 2\ns 2 2 R 9 0 7 0 0 2\na 0 101000\na 1 -1000\na 5 -100000\n",
     },
     // Neither the dearer offer nor the later one of the same price makes an award, and neither is fined.
     Known {
@@ -160,7 +160,7 @@ pub const KNOWN: [Known; 15] = [
             ("close", "0 0"),
         ],
         refusals: &[0, 11],
-        end: "s 1 1 D 10 0 10 0 0\ns 2 2 R 10 0 10 0 0\n",
+        end: "s 1 1 D 10 0 10 0 0 0\ns 2 2 R 10 0 10 0 0 0\n",
     },
     // 6 units are open: 5 times 0 and 1 times 100.
     Known {
@@ -179,7 +179,7 @@ pub const KNOWN: [Known; 15] = [
             ("confirm 2", "0 1\np 1 2 1 0"),
         ],
         refusals: &[0],
-        end: "s 1 1 D 10 4 6 0 0\ns 2 2 R 10 4 6 0 0\na 0 100\na 1 -100\n",
+        end: "s 1 1 D 10 4 6 0 0 0\ns 2 2 R 10 4 6 0 0 0\na 0 100\na 1 -100\n",
     },
     // 10 times -10.
     Known {
@@ -196,7 +196,7 @@ pub const KNOWN: [Known; 15] = [
             ("confirm 2", "11 0"),
         ],
         refusals: &[0, 11],
-        end: "s 1 1 D 10 0 10 0 0\ns 2 2 R 10 0 10 0 0\na 0 -100\na 1 100\n",
+        end: "s 1 1 D 10 0 10 0 0 0\ns 2 2 R 10 0 10 0 0 0\na 0 -100\na 1 100\n",
     },
     // Award 1 is of 4 units of member 3, award 2 of 4 of member 4 and award 3 of 2 of member 3. The 6 units left open
     // make a late fine of 1 cent.
@@ -216,7 +216,7 @@ pub const KNOWN: [Known; 15] = [
             ("close", "0 0"),
         ],
         refusals: &[0],
-        end: "s 1 1 D 10 0 4 0 6\ns 2 2 R 10 0 4 0 6\na 0 200001\na 1 -1\na 3 -200000\n",
+        end: "s 1 1 D 10 0 4 0 0 6\ns 2 2 R 10 0 4 0 0 6\na 0 200001\na 1 -1\na 3 -200000\n",
     },
     // Member 1 pays 6 times 0 and 4 times 100, member 2 3 times -100 and 2 times 100. The offer at 700 finds nothing
     // left.
@@ -245,7 +245,7 @@ pub const KNOWN: [Known; 15] = [
             ("confirm 5", "11 0"),
         ],
         refusals: &[0, 11],
-        end: "s 1 1 D 10 0 10 0 0\ns 2 2 D 5 0 5 0 0\ns 3 3 R 10 0 10 0 0\ns 4 3 R 5 0 5 0 0\n\
+        end: "s 1 1 D 10 0 10 0 0 0\ns 2 2 D 5 0 5 0 0 0\ns 3 3 R 10 0 10 0 0 0\ns 4 3 R 5 0 5 0 0 0\n\
               a 0 300\na 1 -400\na 2 100\n",
     },
     // The ceiling is 1,030. 3 times -10 and 1 times 10.
@@ -265,7 +265,7 @@ pub const KNOWN: [Known; 15] = [
             ("confirm 2", "0 1\np 1 2 1 0"),
         ],
         refusals: &[0, 22],
-        end: "s 1 1 D 4 0 4 0 0\ns 2 2 R 4 0 4 0 0\na 0 -20\na 1 20\n",
+        end: "s 1 1 D 4 0 4 0 0 0\ns 2 2 R 4 0 4 0 0 0\na 0 -20\na 1 20\n",
     },
     // The reference price is 1,100. 3 times 0 and 5 times 100.
     Known {
@@ -284,7 +284,7 @@ pub const KNOWN: [Known; 15] = [
             ("confirm 1", "0 3\np 1 3 3 0"),
         ],
         refusals: &[0],
-        end: "s 1 1 D 8 0 8 0 0\ns 2 2 R 3 0 3 0 0\ns 3 3 R 5 0 5 0 0\na 0 500\na 1 -500\n",
+        end: "s 1 1 D 8 0 8 0 0 0\ns 2 2 R 3 0 3 0 0 0\ns 3 3 R 5 0 5 0 0 0\na 0 500\na 1 -500\n",
     },
     // 8 times 1,000.
     Known {
@@ -304,7 +304,7 @@ pub const KNOWN: [Known; 15] = [
             ("confirm 2", "11 0"),
         ],
         refusals: &[0, 11, 12, 21, 22],
-        end: "s 1 1 D 10 0 8 0 2\ns 2 2 R 10 0 8 0 2\na 0 8000\na 1 -8000\n",
+        end: "s 1 1 D 10 0 8 0 0 2\ns 2 2 R 10 0 8 0 0 2\na 0 8000\na 1 -8000\n",
     },
     // 3 times 100, 3 times 200 and 4 times 300; the first offer alone would cost 10 times 300.
     Known {
@@ -324,7 +324,7 @@ pub const KNOWN: [Known; 15] = [
             ("confirm 1", "0 3\np 1 2 3 0"),
         ],
         refusals: &[0],
-        end: "s 1 1 D 10 0 10 0 0\ns 2 2 R 10 0 10 0 0\na 0 2100\na 1 -2100\n",
+        end: "s 1 1 D 10 0 10 0 0 0\ns 2 2 R 10 0 10 0 0 0\na 0 2100\na 1 -2100\n",
     },
 ];
 
@@ -339,6 +339,6 @@ pub fn sixteen_offers(check: &mut Check) {
     events.extend([("offer 1 19 1 1000", "23 0"), ("award 1", "0 10")]);
     events.extend(confirmations.iter().map(|confirm| (confirm.as_str(), "0 1\np 1 2 1 0")));
     events.extend([("confirm 11", "11 0"), ("close", "0 0")]);
-    let end = "s 1 1 D 10 0 9 0 1\ns 2 2 R 10 0 9 0 1\na 0 100450\na 1 -450\na 12 -100000\n";
+    let end = "s 1 1 D 10 0 9 0 0 1\ns 2 2 R 10 0 9 0 0 1\na 0 100450\na 1 -450\na 12 -100000\n";
     answers(check, &[1], &events, end);
 }

@@ -84,7 +84,7 @@ impl Figures {
     }
 
     fn positions(&mut self) -> String {
-        let fields = ["number", "member", "side", "netted", "delivered", "bought_in", "cash", "open"];
+        let fields = ["number", "member", "side", "netted", "delivered", "bought_in", "cash", "paired", "open"];
         (1..).map_while(|number| self.line("s", &format!("s{number}"), &fields)).collect()
     }
 

@@ -61,10 +61,10 @@ fn sums_fault(table: &Element) -> Option<String> {
 
 /// The columns of a fail's picture.
 const BAR: usize = 1;
-const BY_MANNER: [usize; 3] = [2, 3, 4];
-const OPEN: usize = 5;
-const UNITS: usize = 6;
-const CENTS: usize = 7;
+const BY_MANNER: [usize; 4] = [2, 3, 4, 5];
+const OPEN: usize = 6;
+const UNITS: usize = 7;
+const CENTS: usize = 8;
 
 /// A short's units are those of its longs and the open ones, in figures and in bars.
 fn fail_fault(fail: &Element) -> Option<String> {
@@ -100,7 +100,7 @@ const ROUNDING: f64 = 0.11;
 /// Each figure above 0 has its rectangle, as wide as its share of the short's units.
 fn bar_is_true(row: &Element, netted: i64) -> bool {
     let numbers = numbers_of(row);
-    let fills = ["url(#delivered)", "url(#bought-in)", "url(#cash)", "url(#open)"];
+    let fills = ["url(#delivered)", "url(#bought-in)", "url(#cash)", "url(#paired)", "url(#open)"];
     let units = fills.iter().zip(BAR + 1..).filter_map(|(fill, column)| Some((fill, *numbers.get(&column)?)));
     let wanted: Vec<(&&str, f64)> = units
         .filter(|&(_, units)| units > 0)
@@ -141,7 +141,7 @@ fn positions_fault(marked: &Marked, fail: &Element) -> Option<String> {
     let number = numbered(fail, "id", "f").unwrap_or(0);
     let short = rows(fail.children().next()?, "tbody").into_iter().next()?;
     let numbers = numbers_of(short);
-    let fields = ["delivered", "bought_in", "cash", "open", "netted"];
+    let fields = ["delivered", "bought_in", "cash", "paired", "open", "netted"];
     let same = |(field, column): (&&str, usize)| marked.get(&format!("s{number}.{field}")) == numbers.get(&column);
     let good = linked(short, "#s") == Some(number) && fields.iter().zip(BY_MANNER[0]..).all(same);
     (!good).then(|| format!("position {number}: {}", short.text()))

@@ -60,13 +60,14 @@ impl Found {
 }
 
 /// A position as a close makes it.
-struct Made {
-    day: u32,
-    member: u8,
-    kind: u8,
-    security: u16,
+pub struct Made {
+    /// The trade day.
+    pub day: u32,
+    pub member: u8,
+    pub kind: u8,
+    pub security: u16,
     /// Bought minus sold.
-    net: i64,
+    pub net: i64,
 }
 
 /// Wants the law of what the player and the desk's page show of the input, and of what the second implementation does.
@@ -111,7 +112,8 @@ fn is_refused(lines: &[Line]) -> bool {
     matches!(lines, [Line::Refused { .. }])
 }
 
-fn made(input: &[u8], lines: &[Line]) -> Vec<Made> {
+/// The positions that the accepted trades of the input make, in order of number.
+pub fn made(input: &[u8], lines: &[Line]) -> Vec<Made> {
     if is_refused(lines) {
         return Vec::new();
     }
@@ -204,7 +206,7 @@ const CHANGES: [(&str, &str); 15] = [
     ("s 2 1 D 20 ", "s 2 1 D 30 "),
     ("s 2 1 D ", "s 2 2 D "),
     ("s 2 1 D ", "s 2 1 R "),
-    ("s 8 2 D 10 0 0 0 10\n", ""),
+    ("s 8 2 D 10 0 0 0 0 10\n", ""),
     ("e 3 0 30\n", "e 3 33 0\n"),
 ];
 

@@ -93,7 +93,7 @@ fn random_file(random: &mut Random) -> Vec<u8> {
         0 => file,
         1 => {
             file[..4].copy_from_slice(&[count as u8, 0, WIDTH as u8, 0]);
-            file[4..4 + count].iter_mut().for_each(|kind| *kind %= 11);
+            file[4..4 + count].iter_mut().for_each(|kind| *kind %= 12);
             file
         }
         2 => file_of(&events_of(random, count, random_event)),
@@ -103,7 +103,7 @@ fn random_file(random: &mut Random) -> Vec<u8> {
 
 fn events_of(random: &mut Random, count: usize, event: fn(&mut Random, u8) -> Event) -> Vec<Event> {
     let kinds = (0..count).map(|_| {
-        let kind = random.between(1, 9) as u8;
+        let kind = random.between(1, 10) as u8;
         event(random, kind)
     });
     kinds.collect()
@@ -113,5 +113,5 @@ fn events_of(random: &mut Random, count: usize, event: fn(&mut Random, u8) -> Ev
 fn event_of_small_fields(random: &mut Random, kind: u8) -> Event {
     let [named, quantity, price] = [(); 3].map(|_| random.below(4) as u16);
     let parties = [(); 2].map(|_| Party { member: random.below(4) as u8, kind: random.below(3) as u8 });
-    Event::of(kind, named, parties, quantity.into(), price.into()).expect("a kind from 1 to 9")
+    Event::of(kind, named, parties, quantity.into(), price.into()).expect("a kind from 1 to 10")
 }

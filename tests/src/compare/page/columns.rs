@@ -89,6 +89,8 @@ fn by_transcript(given: &Given) -> Option<Vec<Vec<String>>> {
     let of_positions = printed.lines().filter_map(|line| line.strip_prefix("s "));
     let lines = of_positions.zip(book.positions()).map(|(line, position)| {
         let mut words: Vec<String> = line.split(' ').map(str::to_string).collect();
+        // The page does not show what is paired, which stands before open.
+        words.remove(7);
         let (_, isin) = securities[position.security];
         words.insert(2, String::from_utf8_lossy(&isin).into_owned());
         words.push(position.delivery_day.to_string());

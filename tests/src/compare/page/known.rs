@@ -259,7 +259,7 @@ pub fn faulty_files() -> Vec<(Vec<u8>, Option<u32>)> {
         (changed(&[(0, 20)]), Some(5)),
         (changed(&[(2, 17), (kinds, 0)]), Some(5)),
         (changed(&[(kinds, 0)]), Some(6)),
-        (changed(&[(bodies - 1, 10), (last, 1)]), Some(6)),
+        (changed(&[(bodies - 1, 11), (last, 1)]), Some(6)),
         (changed(&[(last, 1)]), Some(7)),
         (changed(&[(bodies + WIDTH - 1, 1), (kinds + 1, 0)]), Some(7)),
     ]

@@ -115,6 +115,7 @@ impl Survey {
                 Manner::Delivered => State::ClientDelivered,
                 Manner::BoughtIn => State::ClientBoughtIn,
                 Manner::Cash => State::ClientCash,
+                Manner::Paired => State::ClientPaired,
             };
             self.reach_if(is_client, state);
         }

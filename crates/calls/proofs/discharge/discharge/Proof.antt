@@ -1,7 +1,7 @@
 -- `calls::discharge::discharge` meets its contract.
 use mathlib.Core.Path.{refl}
 use borrow.Author.Needs.{needs}
-use Rattle.calls.proofs.Walking.{units-of, lowered-late, follows-after}
+use Rattle.calls.proofs.Walking.{units-of, lowered-late, follows-after, starts-moved}
 use Rattle.calls.proofs.discharge.discharge.Statement.{statement}
 use Rattle.calls.proofs.discharge.discharge.Tie as tie
 
@@ -14,16 +14,16 @@ deal-requires c κs =
     let f = o .before .pre in
     record {
       dealing = f .dealing;
-      some = f .some;
+      some = f .falling .some;
       rows-length = f .rows-length;
       sheet-length = f .sheet-length;
-      within = rw (o .start-of .ensures) (f .follows .started .within (o .before .args .p .security));
-      closed = rw (o .start-of .ensures, ← f .own) (f .follows .started .closed _ (f .security .above));
+      within = rw (o .start-of .ensures) (f .falling .follows .started .within (o .before .args .p .security));
+      closed = rw (o .start-of .ensures, ← f .falling .own) (f .falling .follows .started .closed _ (f .falling .security .above));
     }
 
 discharged-requires : tie.Need-discharged-requires
 discharged-requires c κs =
-    let f = c .before .before .before .before .before .pre in
+    let f = c .before .before .before .before .before .pre .falling in
     ((_, _, f .follows .failing, units-of _ _ _ _ _ _ _ _ _ _ f), f .security, f .member)
 
 sub-k : tie.Need-sub-k
@@ -46,13 +46,14 @@ returns c =
     let d = c .before .before in
     let w = d .before .before in
     let s = w .before .before .before .before in
-    let f = s .pre in
+    let f = s .pre .falling in
+    let low = w .deal .ensures .dealt .positions in
     record {
       dealt = w .deal .ensures .dealt;
       follows =
-          follows-after _ _ _ _ _ _ _ _ _ _ f _ _ _ _ (w .deal .ensures) _ _ _
-          (d .discharged .ensures .0 _ _ _ (f .follows .failing) (units-of _ _ _ _ _ _ _ _ _ _ f) (lowered-late _ _ _ _ _ _ _ _ _ _ f _ _ _ _ (w .deal .ensures)))
-          refl refl refl;
+          follows-after _ _ _ _ _ _ _ _ _ _ f _ low _ _ (starts-moved _ _ _ _ _ _ _ _ _ _ f _ low _ (w .deal .ensures .within) (w .deal .ensures .closed))
+          (d .discharged .ensures .0 _ _ _ (f .follows .failing) (units-of _ _ _ _ _ _ _ _ _ _ f) (lowered-late _ _ _ _ _ _ _ _ _ _ f _ low))
+          refl;
       rows-length = w .deal .ensures .rows-length;
       sheet-length = w .deal .ensures .sheet-length;
     }
