@@ -30,7 +30,7 @@ use Rattle.book.specs.Stepping.{WithoutPieces, Stepped}
 
 -- a book is its core and its numbers
 same-book : (b after : Book) → (after .core ≡ b .core) × (numbersIn after ≡ numbersIn b) → after ≡ b
-same-book b after e i = record { core = e .0 i; rows = e .1 i .rows; trades = e .1 i .trades; awards = e .1 i .awards; counts = e .1 i .counts }
+same-book b after e i = record { core = e .0 i; rows = e .1 i .rows; trades = e .1 i .trades; awards = e .1 i .awards; counts = e .1 i .counts; starts = e .1 i .starts; words = e .1 i .words; credits = e .1 i .ledger .credits; debits = e .1 i .ledger .debits }
 
 -- what a call returns of the book is what it leaves of the parts, and the other way round
 module _ (b after : Book) (o : Outcome) (xs : List Piece) where

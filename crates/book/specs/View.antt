@@ -9,17 +9,18 @@ use Rattle.plain.specs.Calls.{Call}
 use Rattle.plain.specs.Refusals.{refusal}
 use Rattle.plain.specs.Histories.{next, pieces, quantity}
 use Rattle.calls.specs.declared.Core.{Core}
+use Rattle.ledger.specs.Posts.{ledgerOf}
 use Rattle.calls.specs.View.{Numbers, numbers, bookOf, Held}
 pub use Rattle.kept.specs.View.{answer, numberOf, quantityOf}
 use Rattle.book.specs.declared.Book.{Book}
 
 -- the numbers of its tables
 abbrev pub numbersIn : Book → Numbers
-numbersIn b = numbers (b .rows) (b .trades) (b .awards) (b .counts)
+numbersIn b = numbers (b .rows) (b .trades) (b .awards) (b .counts) (b .starts) (b .words) (ledgerOf (b .credits) (b .debits))
 
 -- the same tables with another core
 abbrev pub withCore : Book → Core → Book
-withCore b core = record { core = core; rows = b .rows; trades = b .trades; awards = b .awards; counts = b .counts }
+withCore b core = record { core = core; rows = b .rows; trades = b .trades; awards = b .awards; counts = b .counts; starts = b .starts; words = b .words; credits = b .credits; debits = b .debits }
 
 -- the plain book that it stands for
 unfoldable pub view : Book → plain.Book

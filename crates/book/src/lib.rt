@@ -9,6 +9,7 @@ ghost use Rattle.plain.specs.declared.Outcome.the-variants as outcome;
 ghost use Rattle.plain.specs.Calls.{call, isDischarge};
 ghost use Rattle.plain.specs.Sound.{Places};
 ghost use Rattle.tables.specs.Lent.{pieceTable};
+ghost use Rattle.ledger.specs.Posts.{ledgerOf};
 ghost use Rattle.calls.specs.View.{numbers, bookOf, Held};
 ghost use Rattle.calls.specs.Reading.{positionAnswer, awardAnswer, priceAnswer, balanceAnswer};
 ghost use Rattle.calls.specs.Stepping.{mannerOf};
@@ -29,8 +30,10 @@ use events::Offer;
 use events::PairOff;
 use events::Price;
 use events::Trade;
+use laws::ACCOUNTS;
 use laws::BusinessDay;
 use laws::PLACES;
+use laws::SECURITIES;
 use plain::Ledger;
 use plain::Manner;
 use plain::Outcome;
@@ -43,6 +46,10 @@ pub struct Book {
     trades: [u32; 3584],
     awards: [u32; 1280],
     counts: [u32; 2048],
+    starts: [usize; SECURITIES],
+    words: [u64; SECURITIES],
+    credits: [u64; ACCOUNTS],
+    debits: [u64; ACCOUNTS],
 }
 
 // What a call without pieces answers: the book after it, and its quantity or refusal.
@@ -71,9 +78,13 @@ pub fn made_of(
     trades: [u32; 3584],
     awards: [u32; 1280],
     counts: [u32; 2048],
+    starts: [usize; SECURITIES],
+    words: [u64; SECURITIES],
+    credits: [u64; ACCOUNTS],
+    debits: [u64; ACCOUNTS],
 ) -> Book
-    requires { ⌜ Held core (numbers rows trades awards counts) ⌝ }
-    ensures { λ r. ⌜ (r ≡ record { core = core; rows = rows; trades = trades; awards = awards; counts = counts }) × (Valid r) × (view r ≡ bookOf core (numbers rows trades awards counts)) ⌝ }
+    requires { ⌜ Held core (numbers rows trades awards counts starts words (ledgerOf credits debits)) ⌝ }
+    ensures { λ r. ⌜ (r ≡ record { core = core; rows = rows; trades = trades; awards = awards; counts = counts; starts = starts; words = words; credits = credits; debits = debits }) × (Valid r) × (view r ≡ bookOf core (numbers rows trades awards counts starts words (ledgerOf credits debits))) ⌝ }
 {
     Book {
         core,
@@ -81,6 +92,10 @@ pub fn made_of(
         trades,
         awards,
         counts,
+        starts,
+        words,
+        credits,
+        debits,
     }
 }
 
@@ -93,12 +108,20 @@ pub fn open_book(bytes: &[u8]) -> Opened
     let trades = calls::blank_trades();
     let awards = calls::blank_awards();
     let counts = calls::no_counts();
+    let starts = calls::no_starts();
+    let words = calls::no_words();
+    let credits = calls::no_cents();
+    let debits = calls::no_cents();
     let book = Book {
         core,
         rows,
         trades,
         awards,
         counts,
+        starts,
+        words,
+        credits,
+        debits,
     };
     Opened {
         number: opened.number,
@@ -148,7 +171,9 @@ pub fn balance(book: Book, account: u8) -> BalanceAnswer
     requires { ⌜ Valid book ⌝ }
     ensures { λ r. ⌜ r ≡ balanceAnswer (view book) account ⌝ }
 {
-    calls::balance(book.core, account)
+    let credits = book.credits;
+    let debits = book.debits;
+    calls::balance(&credits, &debits, account)
 }
 
 // All accounts at once.
@@ -156,7 +181,9 @@ pub fn accounts(book: Book) -> Ledger
     requires { ⌜ Valid book ⌝ }
     ensures { λ r. ⌜ (r ≡ view book .ledger) × (Places r) ⌝ }
 {
-    calls::accounts(book.core)
+    let credits = book.credits;
+    let debits = book.debits;
+    Ledger { credits, debits }
 }
 
 // Whether the event is a discharge, whose call has a sheet.
@@ -246,6 +273,10 @@ pub fn step(book: Book, sheet: usize, e: Event) -> Discharged
     let mut trades = book.trades;
     let mut awards = book.awards;
     let mut counts = book.counts;
+    let mut starts = book.starts;
+    let mut words = book.words;
+    let mut credits = book.credits;
+    let mut debits = book.debits;
     let mut lent = pieces::blank_numbers();
     let answered = calls::step(
         book.core,
@@ -253,6 +284,10 @@ pub fn step(book: Book, sheet: usize, e: Event) -> Discharged
         &mut trades,
         &mut awards,
         &mut counts,
+        &mut starts,
+        &mut words,
+        &mut credits,
+        &mut debits,
         &mut lent,
         e,
     );
@@ -261,6 +296,10 @@ pub fn step(book: Book, sheet: usize, e: Event) -> Discharged
     after.trades = trades;
     after.awards = awards;
     after.counts = counts;
+    after.starts = starts;
+    after.words = words;
+    after.credits = credits;
+    after.debits = debits;
     let manner = manner_of(e);
     handed_out(after, answered, &lent, manner)
 }

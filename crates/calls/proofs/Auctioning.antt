@@ -33,7 +33,7 @@ use Rattle.events.specs.declared.Award.{Award}
 use Rattle.auction.specs.Awards.{Awardable, Awarded}
 use Rattle.kept.proofs.Auctions.{offer-held, award-number, award-held, awardable, award-done, position-is, security-at, attempt-missing, attempt-number, ceiling-is, mark-room, attempt-done, offer-first, offer-then, offer-room, offer-done}
 use Rattle.calls.specs.declared.Core.{Core}
-use Rattle.calls.specs.View.{Numbers, numbers, keptOf, bookOf, heldIn, Lent, Held, CalledBare}
+use Rattle.calls.specs.View.{Numbers, onAwards, keptOf, bookOf, heldIn, Lent, Held, CalledBare}
 use Rattle.calls.specs.Cores.{attemptedCore, offeredCore, awardedCore}
 use Rattle.calls.proofs.Returns.{refused, taken}
 
@@ -57,7 +57,7 @@ module _ (b : Core) (a : Numbers) (h : Held b a) (o : Offer) where
         let s = security-at (keptOf b a) (h .valid) (o .position) (offer-held (keptOf b a) o (h .valid) passed) short read in
         record { above = s .0; below = s .1 }
 
-    module _ (word : ℕ) (kept : word ≡ nth 0 (b .followed .failing .words) (short .security)) (fails : Bool) (is : fails ≡ bit word (o .offerer)) (number : ℕ) (e : number ≡ first (auctionReasons fails (b .auction .ceiling) (b .auction .count) (o .price))) where
+    module _ (word : ℕ) (kept : word ≡ nth 0 (a .words) (short .security)) (fails : Bool) (is : fails ≡ bit word (o .offerer)) (number : ℕ) (e : number ≡ first (auctionReasons fails (b .auction .ceiling) (b .auction .count) (o .price))) where
       -- what the kept word of the security says of the offerer is whether it is failing
       failing-is : fails ≡ failing (b .day .0) (heldIn (a .rows) (b .positions)) (positionOf (bookOf b a) (o .position) .security) (o .offerer)
       unfolding view
@@ -124,9 +124,9 @@ module _ (b : Core) (a : Numbers) (h : Held b a) (w : Award) (number : ℕ) (is 
 
     pub award-taken : (p : Position) (ws : List ℕ) (count total : ℕ) → p ≡ rowOf (a .rows) (w .position)
         → Awarded (b .auction) (p .unsettled) (awardTable (a .awards) (b .awards)) (awardTable ws count) total → length ws ≡ 1280
-        → CalledBare b a (call (event.Award w) 0) (awardedCore b count) (numbers (a .rows) (a .trades) ws (a .counts)) (outcome.Done total) 0
+        → CalledBare b a (call (event.Award w) 0) (awardedCore b count) (onAwards a ws) (outcome.Done total) 0
     unfolding view handsOut
     award-taken p ws count total row made long =
         let d = award-done (keptOf b a) w (h .valid) (award-is ∙ z) p (row ∙ position-is (positionTable (a .rows) (b .positions)) (w .position) (award-there .0) (award-there .1)) _ _ made in
-        taken b a (call (event.Award w) 0) (awardedCore b count) (numbers (a .rows) (a .trades) ws (a .counts)) total h (award-is ∙ z) (d .quantity) refl (d .book) (d .fits)
+        taken b a (call (event.Award w) 0) (awardedCore b count) (onAwards a ws) total h (award-is ∙ z) (d .quantity) refl (d .book) (d .fits)
         (record { rows = h .lent .rows; trades = h .lent .trades; awards = long; follows = h .lent .follows })

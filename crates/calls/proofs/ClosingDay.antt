@@ -24,7 +24,6 @@ use Rattle.tables.specs.Tables as table
 use Rattle.tables.specs.Lent.{positionTable, tradeTable, awardTable}
 use Rattle.rows.specs.Rows.{rowsOf}
 use Rattle.laws.specs.Refusals.{first}
-use Rattle.failing.specs.declared.Raised.{Raised}
 use Rattle.failing.specs.Counts.{Counted, LateBefore, Numbered}
 use Rattle.failing.proofs.Keeping.{counted-grown, late-before-grown}
 use Rattle.ledger.specs.Parts.{closeChargesOf}
@@ -88,15 +87,15 @@ numbered b a h =
       securities = all-of _ (λ p. Within 1 32 (p .security)) (heldIn (a .rows) (b .positions)) (λ p f. f .security) (accounted (keptOf b a) (h .valid));
     }
 
-module _ (b : Core) (a : Numbers) (t : Taken b a (call event.Close 0)) (zs cs : List ℕ) (raised : Raised) (count : ℕ) (l : Ledger) (long : length zs ≡ 12288)
-    (posts : l ≡ posted (b .ledger) (closeChargesOf (awardTable (a .awards) (b .awards)) (positionTable (a .rows) (b .positions)) (b .prices) (b .opening .register) (b .day)))
-    (counted : Counted (b .day .0 + 1) (heldIn (a .rows) (b .positions)) (raised .words .words) cs) (late : LateBefore (b .day .0 + 1) (heldIn (a .rows) (b .positions)) (raised .late))
+module _ (b : Core) (a : Numbers) (t : Taken b a (call event.Close 0)) (zs cs ws : List ℕ) (until count : ℕ) (l : Ledger) (long : length zs ≡ 12288)
+    (posts : l ≡ posted (a .ledger) (closeChargesOf (awardTable (a .awards) (b .awards)) (positionTable (a .rows) (b .positions)) (b .prices) (b .opening .register) (b .day)))
+    (counted : Counted (b .day .0 + 1) (heldIn (a .rows) (b .positions)) ws cs) (late : LateBefore (b .day .0 + 1) (heldIn (a .rows) (b .positions)) until)
     (day : DayNetted (positionTable (a .rows) (b .positions)) (tradeTable (a .trades) (b .trades) (b .netted)) (b .day) (b .opening .register .count) (positionTable zs count)) where
   abbrev after : Core
-  after = closedCore b l raised count
+  after = closedCore b until count
 
   abbrev later : Numbers
-  later = numbers zs (a .trades) (a .awards) cs
+  later = numbers zs (a .trades) (a .awards) cs (a .starts) ws l
 
   same : keptOf after later ≡ closedBook (keptOf b a) (positionTable zs count)
   same = rw posts
@@ -116,8 +115,8 @@ module _ (b : Core) (a : Numbers) (t : Taken b a (call event.Close 0)) (zs cs : 
         awards = h .lent .awards;
         follows =
             record {
-              started = started-grown (b .positions) count (rowsOf (a .rows)) (rowsOf zs) _ (omega (arith, fits .places, fits .held)) (day .made) (b .followed .starts) (h .lent .follows .started);
+              started = started-grown (b .positions) count (rowsOf (a .rows)) (rowsOf zs) _ (omega (arith, fits .places, fits .held)) (day .made) (a .starts) (h .lent .follows .started);
               failing = rw (day .made) (counted-grown (b .day .0 + 1) (heldIn (a .rows) (b .positions)) _ early _ cs counted);
-              late = rw (day .made) (late-before-grown (b .day .0 + 1) (heldIn (a .rows) (b .positions)) _ early (raised .late) late);
+              late = rw (day .made) (late-before-grown (b .day .0 + 1) (heldIn (a .rows) (b .positions)) _ early until late);
             };
       })

@@ -29,9 +29,7 @@ use Rattle.kept.specs.View.{view}
 use Rattle.kept.specs.Discharging.{Dischargeable}
 use Rattle.kept.proofs.Discharging.{awards-many, lookup-there, missing-number, confirm-split, confirm-number, buy-in-there, buy-in-dealing, buy-in-charge, buy-in-confirmable, bought-in}
 use Rattle.calls.specs.declared.Core.{Core}
-use Rattle.calls.specs.declared.Followed.{Followed}
-use Rattle.calls.specs.View.{Numbers, numbers, keptOf, bookOf, Held, Taken, CalledOn, Discharging, Discharged}
-use Rattle.calls.specs.Cores.{dischargedCore}
+use Rattle.calls.specs.View.{Numbers, numbers, followed, followedIn, keptOf, bookOf, Held, Taken, CalledOn, Discharging, Discharged}
 use Rattle.calls.proofs.Returns.{refused-on, taken-on}
 use Rattle.calls.proofs.Walking.{row-is, discharging}
 use Rattle.plain.proofs.Numbered.{nth-take, nth-all}
@@ -83,19 +81,19 @@ module _ (b : Core) (a : Numbers) (c : Confirm) (t : Taken b a (call (event.Conf
       (λ e. omega (arith, e, nth-all noAward AwardFits (table.awards (keptOf b a .awards)) (c .award) (rw (awards-many (keptOf b a .awards) (t .held .valid .fits .awards)) in-use) (t .held .valid .sound .auctioned .awards-fit) .quantity .above))
 
   module _ (p : Position) (own : p ≡ rowOf (a .rows) (award .position)) where
-    pub buying-in : (sheet : List ℕ) → length sheet ≡ 4096 → Discharging (b .day .0) (a .rows) (b .positions) (a .counts) sheet (b .followed) (award .position) p (award .quantity) manner.BoughtIn
+    pub buying-in : (sheet : List ℕ) → length sheet ≡ 4096 → Discharging (b .day .0) (a .rows) (b .positions) (a .counts) sheet (followedIn b a) (award .position) p (award .quantity) manner.BoughtIn
     buying-in sheet long =
         discharging b a (t .held) (award .position) (award .quantity) manner.BoughtIn (buy-in-dealing (keptOf b a) (t .held .valid) c able award award-is) p sheet some-units own long
 
-    pub chargeable : Chargeable (b .ledger) (charge (p .member) (buyInCharge (award .quantity) (award .price) (p .reference)))
+    pub chargeable : Chargeable (a .ledger) (charge (p .member) (buyInCharge (award .quantity) (award .price) (p .reference)))
     chargeable = buy-in-charge (keptOf b a) (t .held .valid) c able award p award-is (own ∙ row-is b a (t .held) (award .position) short-there)
 
-    pub confirm-done : (zs ws cs sheet left : List ℕ) (f : Followed) (made : ℕ) (l : Ledger) → Discharged (b .day .0) (a .rows) (b .positions) (award .position) (award .quantity) manner.BoughtIn zs cs left f made
-        → l ≡ posted (b .ledger) (charge (p .member) (buyInCharge (award .quantity) (award .price) (p .reference)) ∷ [])
+    pub confirm-done : (zs ws cs ss fs sheet left : List ℕ) (made : ℕ) (l : Ledger) → Discharged (b .day .0) (a .rows) (b .positions) (award .position) (award .quantity) manner.BoughtIn zs cs left (followed ss fs (b .late)) made
+        → l ≡ posted (a .ledger) (charge (p .member) (buyInCharge (award .quantity) (award .price) (p .reference)) ∷ [])
         → Confirmed (awardTable (a .awards) (b .awards)) (c .award) (awardTable ws (b .awards)) → length ws ≡ 1280
-        → CalledOn b a (call (event.Confirm c) 1024) manner.BoughtIn sheet (dischargedCore b f l) (numbers zs (a .trades) ws cs) left (outcome.Done (award .quantity)) made
+        → CalledOn b a (call (event.Confirm c) 1024) manner.BoughtIn sheet b (numbers zs (a .trades) ws cs ss fs l) left (outcome.Done (award .quantity)) made
     unfolding table.pieces
-    confirm-done zs ws cs sheet left f made l w posts marked long =
+    confirm-done zs ws cs ss fs sheet left made l w posts marked long =
         let r = bought-in (keptOf b a) (t .held .valid) c award p _ l (awardTable ws (b .awards)) award-is (own ∙ row-is b a (t .held) (award .position) short-there) (w .dealt) posts marked in
-        taken-on b a (call (event.Confirm c) 1024) manner.BoughtIn sheet (dischargedCore b f l) (numbers zs (a .trades) ws cs) left (award .quantity) made (t .held) (t .accepted) (r .quantity) (r .pieces) (r .book) (r .fits)
+        taken-on b a (call (event.Confirm c) 1024) manner.BoughtIn sheet b (numbers zs (a .trades) ws cs ss fs l) left (award .quantity) made (t .held) (t .accepted) (r .quantity) (r .pieces) (r .book) (r .fits)
         (record { rows = w .rows-length; trades = t .held .lent .trades; awards = long; follows = w .follows }) (w .sheet-length) (w .dealt .pieces-fit .held)

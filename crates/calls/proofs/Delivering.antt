@@ -18,9 +18,7 @@ use Rattle.tables.specs.Lent.{rowOf}
 use Rattle.laws.specs.Refusals.{first}
 use Rattle.kept.proofs.Discharging.{lookup-there, missing-number, delivery-split, delivery-number, delivery-dealing, delivered}
 use Rattle.calls.specs.declared.Core.{Core}
-use Rattle.calls.specs.declared.Followed.{Followed}
-use Rattle.calls.specs.View.{Numbers, numbers, keptOf, bookOf, Held, CalledOn, Discharging, Discharged}
-use Rattle.calls.specs.Cores.{dischargedCore}
+use Rattle.calls.specs.View.{Numbers, numbers, followed, followedIn, keptOf, bookOf, Held, CalledOn, Discharging, Discharged}
 use Rattle.calls.proofs.Returns.{refused-on, taken-on}
 use Rattle.calls.proofs.Walking.{row-is, discharging}
 
@@ -40,16 +38,16 @@ module _ (b : Core) (a : Numbers) (h : Held b a) (d : Delivery) where
     delivery-refused sheet some long = refused-on b a (call (event.Delivery d) 1024) manner.Delivered sheet number h number-is some long
 
     module _ (z : number ≡ 0) where
-      pub delivering : (sheet : List ℕ) → length sheet ≡ 4096 → Discharging (b .day .0) (a .rows) (b .positions) (a .counts) sheet (b .followed) (d .position) p (d .quantity) manner.Delivered
+      pub delivering : (sheet : List ℕ) → length sheet ≡ 4096 → Discharging (b .day .0) (a .rows) (b .positions) (a .counts) sheet (followedIn b a) (d .position) p (d .quantity) manner.Delivered
       delivering sheet long =
           discharging b a h (d .position) (d .quantity) manner.Delivered (delivery-dealing (keptOf b a) (h .valid) d (record { valid = h .valid; taken = number-is ∙ z })) p sheet
           (delivery-taken (bookOf b a) d 1024 (number-is ∙ z) .some-units) row long
 
-      pub delivery-done : (zs cs sheet left : List ℕ) (f : Followed) (made : ℕ) → Discharged (b .day .0) (a .rows) (b .positions) (d .position) (d .quantity) manner.Delivered zs cs left f made
-          → CalledOn b a (call (event.Delivery d) 1024) manner.Delivered sheet (dischargedCore b f (b .ledger)) (numbers zs (a .trades) (a .awards) cs) left (outcome.Done (d .quantity)) made
+      pub delivery-done : (zs cs ss ws sheet left : List ℕ) (made : ℕ) → Discharged (b .day .0) (a .rows) (b .positions) (d .position) (d .quantity) manner.Delivered zs cs left (followed ss ws (b .late)) made
+          → CalledOn b a (call (event.Delivery d) 1024) manner.Delivered sheet b (numbers zs (a .trades) (a .awards) cs ss ws (a .ledger)) left (outcome.Done (d .quantity)) made
       unfolding table.pieces
-      delivery-done zs cs sheet left f made w =
+      delivery-done zs cs ss ws sheet left made w =
           let e = number-is ∙ z in
           let r = delivered (keptOf b a) (h .valid) d _ (w .dealt) in
-          taken-on b a (call (event.Delivery d) 1024) manner.Delivered sheet (dischargedCore b f (b .ledger)) (numbers zs (a .trades) (a .awards) cs) left (d .quantity) made h e (r .quantity) (r .pieces) (r .book) (r .fits)
+          taken-on b a (call (event.Delivery d) 1024) manner.Delivered sheet b (numbers zs (a .trades) (a .awards) cs ss ws (a .ledger)) left (d .quantity) made h e (r .quantity) (r .pieces) (r .book) (r .fits)
           (record { rows = w .rows-length; trades = h .lent .trades; awards = h .lent .awards; follows = w .follows }) (w .sheet-length) (w .dealt .pieces-fit .held)

@@ -17,12 +17,12 @@ use Rattle.kept.proofs.Entered.{price-number, price-security, price-view, price
 use Rattle.calls.specs.declared.Core.{Core}
 use Rattle.kept.specs.View.{view, Fits}
 use Rattle.calls.specs.Cores.{tradedCore, pricedCore}
-use Rattle.calls.specs.View.{Numbers, numbers, keptOf, bookOf, Held, CalledBare}
+use Rattle.calls.specs.View.{Numbers, onTrades, keptOf, bookOf, Held, CalledBare}
 use Rattle.calls.proofs.Returns.{refused, taken}
 
-module _ (b : Core) (rows trades awards counts : List ℕ) (t : Trade) (h : Held b (numbers rows trades awards counts)) (number : ℕ) (e : number ≡ first (tradeReasons (b .opening .register .count) (b .trades) t)) where
+module _ (b : Core) (others : Numbers) (trades : List ℕ) (t : Trade) (h : Held b (onTrades others trades)) (number : ℕ) (e : number ≡ first (tradeReasons (b .opening .register .count) (b .trades) t)) where
   abbrev a : Numbers
-  a = numbers rows trades awards counts
+  a = onTrades others trades
 
   number-is : refusal (bookOf b a) (call (event.Trade t) 0) ≡ number
   number-is = trade-number (keptOf b a) t (h .valid .fits) ∙ sym e
@@ -30,12 +30,12 @@ module _ (b : Core) (rows trades awards counts : List ℕ) (t : Trade) (h : Held
   pub trade-refused : number ≢ 0 → CalledBare b a (call (event.Trade t) 0) b a (outcome.Refused number) 0
   trade-refused some = refused b a (call (event.Trade t) 0) number h number-is some
 
-  pub trade-taken : number ≡ 0 → (exit : List ℕ) → tradesOf exit ≡ set (tradesOf trades) (b .trades) t → length exit ≡ 3584 → CalledBare b a (call (event.Trade t) 0) (tradedCore b) (numbers rows exit awards counts) (outcome.Done (t .quantity)) 0
+  pub trade-taken : number ≡ 0 → (exit : List ℕ) → tradesOf exit ≡ set (tradesOf trades) (b .trades) t → length exit ≡ 3584 → CalledBare b a (call (event.Trade t) 0) (tradedCore b) (onTrades others exit) (outcome.Done (t .quantity)) 0
   unfolding amount handsOut
   trade-taken z exit put long =
       let room : b .trades < 512 = trade-room (b .opening .register .count) (b .trades) t (sym e ∙ z) in
-      let same : keptOf (tradedCore b) (numbers rows exit awards counts) ≡ withTrade (keptOf b a) t = rw put in
-      taken b a (call (event.Trade t) 0) (tradedCore b) (numbers rows exit awards counts) (t .quantity) h (number-is ∙ z) refl refl
+      let same : keptOf (tradedCore b) (onTrades others exit) ≡ withTrade (keptOf b a) t = rw put in
+      taken b a (call (event.Trade t) 0) (tradedCore b) (onTrades others exit) (t .quantity) h (number-is ∙ z) refl refl
       (ap view same ∙ trade-view (keptOf b a) t (h .valid .fits) room)
       (subst Fits (sym same) (trade-fits (keptOf b a) t (h .valid .fits) room))
       (record { rows = h .lent .rows; trades = long; awards = h .lent .awards; follows = h .lent .follows })

@@ -1,4 +1,4 @@
--- A new core, with any numbers for its tables but the counts: it stands for the new plain book.
+-- A new core, with any numbers for its tables, and zeros for the rest: it stands for the new plain book.
 use Prim.Native.Nat.{ℕ, zero, suc, _-_}
 use native.Mathlib.Omega.{arith}
 use mathlib.Core.Path.{_≡_, refl, ap, _∙_}
@@ -14,7 +14,7 @@ use Rattle.kept.proofs.Fresh.{Unused, unused-view, unused-valid}
 use Rattle.calls.specs.declared.Core.{Core}
 use Rattle.tables.specs.Tables as table
 use Rattle.failing.proofs.Keeping.{counted-new, late-before-new}
-use Rattle.calls.specs.View.{Numbers, keptOf, bookOf, Started, Follows, Held, Blank}
+use Rattle.calls.specs.View.{Numbers, followedIn, keptOf, bookOf, Started, Follows, Held, Blank}
 
 zeros-at : (n i : ℕ) → getD {A = ℕ} (replicate n 0) i 0 ≡ 0
 zeros-at zero i = refl
@@ -42,8 +42,7 @@ pub record New (b : Core) : Type 0 where
   pub prices : table.prices (b .prices) ≡ replicate 32 noPrice
   pub auction : (b .auction .position ≡ 0) × (b .auction .ceiling ≡ 0) × (b .auction .count ≡ 0) × (length (b .auction .offers) ≡ 16)
   pub marks : (b .marks .count ≡ 0) × (length (b .marks .items) ≡ 16)
-  pub ledger : (b .ledger .credits ≡ replicate 64 0) × (b .ledger .debits ≡ replicate 64 0)
-  pub followed : (b .followed .starts ≡ replicate 32 0) × (b .followed .failing .words ≡ replicate 32 0) × (b .followed .late ≡ 0)
+  pub late : b .late ≡ 0
   pub uses : (b .positions ≡ 0) × (b .trades ≡ 0) × (b .netted ≡ 0) × (b .awards ≡ 0)
 
 module _ (b : Core) (u : New b) (a : Numbers) (blank : Blank a) where
@@ -57,17 +56,17 @@ module _ (b : Core) (u : New b) (a : Numbers) (blank : Blank a) where
         auction = u .auction;
         awards = (u .uses .3, length-awards (a .awards));
         marks = u .marks;
-        ledger = u .ledger;
+        ledger = blank .ledger;
       }
 
-  follows : Follows (b .day .0) (a .rows) (b .positions) (a .counts) (b .followed)
+  follows : Follows (b .day .0) (a .rows) (b .positions) (a .counts) (followedIn b a)
   unfolding table.positions
   follows =
       rw (u .uses .0)
       (record {
-        started = started-new (b .followed .starts) (rowsOf (a .rows)) (u .followed .0);
-        failing = rw (u .followed .1, blank .counts) (counted-new (b .day .0));
-        late = rw (u .followed .2) (late-before-new (b .day .0));
+        started = started-new (a .starts) (rowsOf (a .rows)) (blank .starts);
+        failing = rw (blank .words, blank .counts) (counted-new (b .day .0));
+        late = rw (u .late) (late-before-new (b .day .0));
       })
 
   pub opened : (bookOf b a ≡ new (b .opening)) × (Registered (b .opening .register) → Held b a)

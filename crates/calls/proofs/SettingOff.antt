@@ -26,9 +26,7 @@ use Rattle.positions.specs.Pairing.{SettingOff}
 use Rattle.kept.specs.View.{view}
 use Rattle.kept.proofs.Discharging.{both-there, missing-number, lowerable, pair-off-split, pair-off-number, paired-off}
 use Rattle.calls.specs.declared.Core.{Core}
-use Rattle.calls.specs.declared.Followed.{Followed}
-use Rattle.calls.specs.View.{Numbers, numbers, keptOf, bookOf, Held, CalledOn, PairingOff, PairedOff}
-use Rattle.calls.specs.Cores.{dischargedCore}
+use Rattle.calls.specs.View.{Numbers, numbers, followed, followedIn, keptOf, bookOf, Held, CalledOn, PairingOff, PairedOff}
 use Rattle.calls.proofs.Returns.{refused-on, taken-on}
 use Rattle.calls.proofs.Walking.{row-is, falling}
 
@@ -72,18 +70,18 @@ module _ (b : Core) (a : Numbers) (h : Held b a) (x : PairOff) where
             sheet-length = long;
           }
 
-      pub pairing : (sheet : List ℕ) → length sheet ≡ 4096 → PairingOff (b .day .0) (a .rows) (b .positions) (a .counts) sheet (b .followed) p x
+      pub pairing : (sheet : List ℕ) → length sheet ≡ 4096 → PairingOff (b .day .0) (a .rows) (b .positions) (a .counts) sheet (followedIn b a) p x
       pairing sheet long =
           record {
             setting = setting sheet long;
             falling = falling b a h (x .short) (x .quantity) manner.Paired (pairedPiece x ∷ []) (pair-deals (bookOf b a) x taken) p (taken .some-units) own;
           }
 
-      pub pair-off-done : (zs cs sheet left : List ℕ) (f : Followed) → PairedOff (b .day .0) (a .rows) (b .positions) x zs cs left f
-          → CalledOn b a (call (event.PairOff x) 1024) manner.Paired sheet (dischargedCore b f (b .ledger)) (numbers zs (a .trades) (a .awards) cs) left (outcome.Done (x .quantity)) 1
+      pub pair-off-done : (zs cs ws sheet left : List ℕ) → PairedOff (b .day .0) (a .rows) (b .positions) x zs cs left (followed (a .starts) ws (b .late))
+          → CalledOn b a (call (event.PairOff x) 1024) manner.Paired sheet b (numbers zs (a .trades) (a .awards) cs (a .starts) ws (a .ledger)) left (outcome.Done (x .quantity)) 1
       unfolding table.pieces
-      pair-off-done zs cs sheet left f w =
+      pair-off-done zs cs ws sheet left w =
           let e = number-is ∙ z in
           let r = paired-off (keptOf b a) (h .valid) x _ (w .dealt) in
-          taken-on b a (call (event.PairOff x) 1024) manner.Paired sheet (dischargedCore b f (b .ledger)) (numbers zs (a .trades) (a .awards) cs) left (x .quantity) 1 h e (r .quantity) (r .pieces) (r .book) (r .fits)
+          taken-on b a (call (event.PairOff x) 1024) manner.Paired sheet b (numbers zs (a .trades) (a .awards) cs (a .starts) ws (a .ledger)) left (x .quantity) 1 h e (r .quantity) (r .pieces) (r .book) (r .fits)
           (record { rows = w .rows-length; trades = h .lent .trades; awards = h .lent .awards; follows = w .follows }) (w .sheet-length) (w .dealt .pieces-fit .held)

@@ -42,9 +42,7 @@ use Rattle.kept.specs.View.{view, Valid}
 use Rattle.kept.specs.Discharging.{Terms, Dischargeable}
 use Rattle.kept.proofs.Discharging.{positions-many, accounted, lookup-there, missing-number, cash-split, cash-number, cash-terms, cash-dealing, cash-priceable, cash-price, cash-room, settled}
 use Rattle.calls.specs.declared.Core.{Core}
-use Rattle.calls.specs.declared.Followed.{Followed}
-use Rattle.calls.specs.View.{Numbers, numbers, keptOf, bookOf, heldIn, Held, Taken, CashTerms, CalledOn, Discharging, Discharged}
-use Rattle.calls.specs.Cores.{dischargedCore}
+use Rattle.calls.specs.View.{Numbers, numbers, followed, followedIn, keptOf, bookOf, heldIn, Held, Taken, CashTerms, CalledOn, Discharging, Discharged}
 use Rattle.calls.proofs.Returns.{refused-on, taken-on}
 use Rattle.calls.proofs.Walking.{row-is, discharging}
 
@@ -124,12 +122,12 @@ module _ (b : Core) (a : Numbers) (c : Cash) (t : Taken b a (call (event.Cash c)
   by : Terms (bookOf b a) (c .position) (p .unsettled) class latest
   by = cash-terms (keptOf b a) v c p class latest own (terms .classed) (terms .priced)
 
-  pub settling : (sheet : List ℕ) → length sheet ≡ 4096 → Discharging (b .day .0) (a .rows) (b .positions) (a .counts) sheet (b .followed) (c .position) p (p .unsettled) manner.Cash
+  pub settling : (sheet : List ℕ) → length sheet ≡ 4096 → Discharging (b .day .0) (a .rows) (b .positions) (a .counts) sheet (followedIn b a) (c .position) p (p .unsettled) manner.Cash
   settling sheet long =
       discharging b a (t .held) (c .position) (p .unsettled) manner.Cash (cash-dealing (keptOf b a) v c able (p .unsettled) class latest by) p sheet
       (λ e. cash-taken (bookOf b a) c 1024 (t .accepted) .unsettled (sym (by .unsettled) ∙ e)) (terms .own) long
 
-  module _ (zs cs mid : List ℕ) (f : Followed) (made : ℕ) (w : Discharged (b .day .0) (a .rows) (b .positions) (c .position) (p .unsettled) manner.Cash zs cs mid f made) where
+  module _ (zs cs ss ws mid : List ℕ) (made : ℕ) (w : Discharged (b .day .0) (a .rows) (b .positions) (c .position) (p .unsettled) manner.Cash zs cs mid (followed ss ws (b .late)) made) where
     abbrev left-table : Positions
     left-table = positionTable zs (b .positions)
 
@@ -186,7 +184,7 @@ module _ (b : Core) (a : Numbers) (c : Cash) (t : Taken b a (call (event.Cash c)
     owed-of x e =
         ap (λ (k : ℕ). nth noPosition (table.positions left-table) k .member) e ∙ members (c .position) ∙ ap (λ (q : Position). q .member) (sym own)
 
-    pub settleable : Settleable (b .ledger) (settlementOf class latest p left-table dealt-pieces) left-table dealt-pieces (p .member)
+    pub settleable : Settleable (a .ledger) (settlementOf class latest p left-table dealt-pieces) left-table dealt-pieces (p .member)
     settleable =
         let g = cash-priceable (keptOf b a) v c able (p .unsettled) class latest by _ (w .dealt) in
         let all = accounted (keptOf b a) v in
@@ -199,10 +197,10 @@ module _ (b : Core) (a : Numbers) (c : Cash) (t : Taken b a (call (event.Cash c)
         }
 
     pub cash-done : (sheet left : List ℕ) (l : Ledger) → Priced dealt-pieces price (pieceTable manner.Cash left made)
-        → l ≡ posted (b .ledger) (settlementOf class latest p left-table dealt-pieces) → length left ≡ 4096
-        → CalledOn b a (call (event.Cash c) 1024) manner.Cash sheet (dischargedCore b f l) (numbers zs (a .trades) (a .awards) cs) left (outcome.Done (p .unsettled)) made
+        → l ≡ posted (a .ledger) (settlementOf class latest p left-table dealt-pieces) → length left ≡ 4096
+        → CalledOn b a (call (event.Cash c) 1024) manner.Cash sheet b (numbers zs (a .trades) (a .awards) cs ss ws l) left (outcome.Done (p .unsettled)) made
     unfolding table.pieces
     cash-done sheet left l g posts long =
-        let r = settled (keptOf b a) v c able (p .unsettled) class latest by _ (w .dealt) price price-same (pieceTable manner.Cash left made) g l (posts ∙ ap (posted (b .ledger)) (charges-are (pieceTable manner.Cash left made) g)) in
-        taken-on b a (call (event.Cash c) 1024) manner.Cash sheet (dischargedCore b f l) (numbers zs (a .trades) (a .awards) cs) left (p .unsettled) made (t .held) (t .accepted) (r .quantity) (r .pieces) (r .book) (r .fits)
+        let r = settled (keptOf b a) v c able (p .unsettled) class latest by _ (w .dealt) price price-same (pieceTable manner.Cash left made) g l (posts ∙ ap (posted (a .ledger)) (charges-are (pieceTable manner.Cash left made) g)) in
+        taken-on b a (call (event.Cash c) 1024) manner.Cash sheet b (numbers zs (a .trades) (a .awards) cs ss ws l) left (p .unsettled) made (t .held) (t .accepted) (r .quantity) (r .pieces) (r .book) (r .fits)
         (record { rows = w .rows-length; trades = t .held .lent .trades; awards = t .held .lent .awards; follows = w .follows }) long (w .dealt .pieces-fit .held)

@@ -25,8 +25,7 @@ use Rattle.kept.specs.View.{view}
 use Rattle.kept.proofs.Discharging.{positions-many, cash-security}
 use Rattle.kept.proofs.Auctions.{position-is, members-fit}
 use Rattle.calls.specs.declared.Core.{Core}
-use Rattle.calls.specs.declared.Followed.{Followed}
-use Rattle.calls.specs.View.{Numbers, keptOf, bookOf, heldIn, Started, Follows, Held, Falling, Discharging}
+use Rattle.calls.specs.View.{Numbers, Followed, followedIn, keptOf, bookOf, heldIn, Started, Follows, Held, Falling, Discharging}
 use Rattle.calls.proofs.Started.{started-kept, started-after}
 use Rattle.plain.proofs.Numbered.{nth-all}
 
@@ -49,7 +48,7 @@ module _ (b : Core) (a : Numbers) (h : Held b a) where
 
   -- what a discharge by these pieces asks
   pub falling : (n q : ℕ) (m : Manner) (xs : List Piece) → Deals (bookOf b a) m n q xs → (p : Position) → q ≢ 0 → p ≡ rowOf (a .rows) n
-      → Falling (b .day .0) (a .rows) (b .positions) (a .counts) (b .followed) n p q m xs
+      → Falling (b .day .0) (a .rows) (b .positions) (a .counts) (followedIn b a) n p q m xs
   unfolding view
   falling n q m xs f p some e =
       let held = f .dealable .held in
@@ -82,7 +81,7 @@ module _ (b : Core) (a : Numbers) (h : Held b a) where
     dealt-of = deals (bookOf b a) m n q (h .valid .sound .settled .even) dealable
 
     pub discharging : (p : Position) (sheet : List ℕ) → q ≢ 0 → p ≡ rowOf (a .rows) n → length sheet ≡ 4096
-        → Discharging (b .day .0) (a .rows) (b .positions) (a .counts) sheet (b .followed) n p q m
+        → Discharging (b .day .0) (a .rows) (b .positions) (a .counts) sheet (followedIn b a) n p q m
     discharging p sheet some e long =
         record { dealing = d; falling = falling n q m _ dealt-of p some e; rows-length = h .lent .rows; sheet-length = long }
 
@@ -119,7 +118,7 @@ module _ (day : ℕ) (rows : List ℕ) (count : ℕ) (counts : List ℕ) (f : Fo
         rw low
         (subst (λ (ps : List Position). Lowered day ps (lowering xs ps) n q) (asks .deals .1) (lowering-lowered (asks .deals .2) day))
 
-    pub follows-after : (cs : List ℕ) (g : Followed) → Started count (g .starts) (rowsOf zs) → Counted day (heldIn zs count) (g .failing .words) cs → g .late ≡ f .late → Follows day zs count cs g
+    pub follows-after : (cs : List ℕ) (g : Followed) → Started count (g .starts) (rowsOf zs) → Counted day (heldIn zs count) (g .words) cs → g .late ≡ f .late → Follows day zs count cs g
     follows-after cs g started counted late =
         record { started = started; failing = counted; late = rw (late, low) (late-before-lowered xs day held (f .late) (asks .follows .late)) }
 

@@ -4,53 +4,46 @@ use lib.ListN.{set}
 use Rattle.laws.specs.declared.BusinessDay.{BusinessDay}
 use Rattle.events.specs.declared.Price.{Price}
 use Rattle.events.specs.declared.Offer.{Offer}
-use Rattle.plain.specs.declared.Ledger.{Ledger}
 use Rattle.tables.specs.declared.Prices.{Prices}
 use Rattle.tables.specs.declared.Auction.{Auction}
 use Rattle.tables.specs.declared.Marks.{Marks}
-use Rattle.failing.specs.declared.Raised.{Raised}
 use Rattle.calls.specs.declared.Core.{Core}
-use Rattle.calls.specs.declared.Followed.{Followed}
 
 abbrev pub withDay : Core → BusinessDay → Core
 withDay b x =
-    record { opening = b .opening; day = x; prices = b .prices; auction = b .auction; marks = b .marks; ledger = b .ledger; followed = b .followed; positions = b .positions; trades = b .trades; netted = b .netted; awards = b .awards }
+    record { opening = b .opening; day = x; prices = b .prices; auction = b .auction; marks = b .marks; late = b .late; positions = b .positions; trades = b .trades; netted = b .netted; awards = b .awards }
 
 abbrev pub withPrices : Core → Prices → Core
 withPrices b x =
-    record { opening = b .opening; day = b .day; prices = x; auction = b .auction; marks = b .marks; ledger = b .ledger; followed = b .followed; positions = b .positions; trades = b .trades; netted = b .netted; awards = b .awards }
+    record { opening = b .opening; day = b .day; prices = x; auction = b .auction; marks = b .marks; late = b .late; positions = b .positions; trades = b .trades; netted = b .netted; awards = b .awards }
 
 abbrev pub withAuction : Core → Auction → Core
 withAuction b x =
-    record { opening = b .opening; day = b .day; prices = b .prices; auction = x; marks = b .marks; ledger = b .ledger; followed = b .followed; positions = b .positions; trades = b .trades; netted = b .netted; awards = b .awards }
+    record { opening = b .opening; day = b .day; prices = b .prices; auction = x; marks = b .marks; late = b .late; positions = b .positions; trades = b .trades; netted = b .netted; awards = b .awards }
 
 abbrev pub withMarks : Core → Marks → Core
 withMarks b x =
-    record { opening = b .opening; day = b .day; prices = b .prices; auction = b .auction; marks = x; ledger = b .ledger; followed = b .followed; positions = b .positions; trades = b .trades; netted = b .netted; awards = b .awards }
+    record { opening = b .opening; day = b .day; prices = b .prices; auction = b .auction; marks = x; late = b .late; positions = b .positions; trades = b .trades; netted = b .netted; awards = b .awards }
 
-abbrev pub withLedger : Core → Ledger → Core
-withLedger b x =
-    record { opening = b .opening; day = b .day; prices = b .prices; auction = b .auction; marks = b .marks; ledger = x; followed = b .followed; positions = b .positions; trades = b .trades; netted = b .netted; awards = b .awards }
-
-abbrev pub withFollowed : Core → Followed → Core
-withFollowed b x =
-    record { opening = b .opening; day = b .day; prices = b .prices; auction = b .auction; marks = b .marks; ledger = b .ledger; followed = x; positions = b .positions; trades = b .trades; netted = b .netted; awards = b .awards }
+abbrev pub withLate : Core → ℕ → Core
+withLate b x =
+    record { opening = b .opening; day = b .day; prices = b .prices; auction = b .auction; marks = b .marks; late = x; positions = b .positions; trades = b .trades; netted = b .netted; awards = b .awards }
 
 abbrev pub withPositions : Core → ℕ → Core
 withPositions b x =
-    record { opening = b .opening; day = b .day; prices = b .prices; auction = b .auction; marks = b .marks; ledger = b .ledger; followed = b .followed; positions = x; trades = b .trades; netted = b .netted; awards = b .awards }
+    record { opening = b .opening; day = b .day; prices = b .prices; auction = b .auction; marks = b .marks; late = b .late; positions = x; trades = b .trades; netted = b .netted; awards = b .awards }
 
 abbrev pub withTrades : Core → ℕ → Core
 withTrades b x =
-    record { opening = b .opening; day = b .day; prices = b .prices; auction = b .auction; marks = b .marks; ledger = b .ledger; followed = b .followed; positions = b .positions; trades = x; netted = b .netted; awards = b .awards }
+    record { opening = b .opening; day = b .day; prices = b .prices; auction = b .auction; marks = b .marks; late = b .late; positions = b .positions; trades = x; netted = b .netted; awards = b .awards }
 
 abbrev pub withNetted : Core → ℕ → Core
 withNetted b x =
-    record { opening = b .opening; day = b .day; prices = b .prices; auction = b .auction; marks = b .marks; ledger = b .ledger; followed = b .followed; positions = b .positions; trades = b .trades; netted = x; awards = b .awards }
+    record { opening = b .opening; day = b .day; prices = b .prices; auction = b .auction; marks = b .marks; late = b .late; positions = b .positions; trades = b .trades; netted = x; awards = b .awards }
 
 abbrev pub withAwards : Core → ℕ → Core
 withAwards b x =
-    record { opening = b .opening; day = b .day; prices = b .prices; auction = b .auction; marks = b .marks; ledger = b .ledger; followed = b .followed; positions = b .positions; trades = b .trades; netted = b .netted; awards = x }
+    record { opening = b .opening; day = b .day; prices = b .prices; auction = b .auction; marks = b .marks; late = b .late; positions = b .positions; trades = b .trades; netted = b .netted; awards = x }
 
 -- one more trade is held
 abbrev pub tradedCore : Core → Core
@@ -78,19 +71,15 @@ offeredCore b o =
 abbrev pub awardedCore : Core → ℕ → Core
 awardedCore b count = withAwards (withAuction b (record { position = 0; ceiling = 0; offers = b .auction .offers; count = 0 })) count
 
--- a discharge: what is followed of the positions, and the accounts
-abbrev pub dischargedCore : Core → Followed → Ledger → Core
-dischargedCore b f l = withLedger (withFollowed b f) l
-
--- "awards and attempt marks cleared, the day raised by 1", with these accounts, so many positions, and the shorts that are late then
-abbrev pub closedCore : Core → Ledger → Raised → ℕ → Core
-closedCore b l raised positions =
+-- "awards and attempt marks cleared, the day raised by 1", with so many positions, and the place up to which they are late then
+abbrev pub closedCore : Core → ℕ → ℕ → Core
+closedCore b late positions =
     withDay
     (withMarks
     (withAwards
     (withNetted
     (withPositions
-    (withFollowed (withLedger b l) (record { starts = b .followed .starts; failing = raised .words; late = raised .late }))
+    (withLate b late)
     positions)
     (b .trades))
     0)

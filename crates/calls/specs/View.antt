@@ -4,12 +4,13 @@ use mathlib.Core.Path.{_≡_}
 use mathlib.Core.Logic.{_≢_}
 use mathlib.Core.List.{List, [], _∷_}
 use lib.ListN.{length, take, replicate}
-use Rattle.laws.specs.Limits.{MEMBERS, PLACES, SECURITIES}
+use Rattle.laws.specs.Limits.{ACCOUNTS, MEMBERS, PLACES, SECURITIES}
 use Rattle.events.specs.declared.PairOff.{PairOff}
 use Rattle.plain.specs.declared.Piece.{Piece}
 use Rattle.plain.specs.declared.Position.{Position}
 use Rattle.plain.specs.declared.Manner.{Manner}
 use Rattle.plain.specs.declared.Manner.the-variants.{Paired}
+use Rattle.plain.specs.declared.Ledger.{Ledger}
 use Rattle.plain.specs.declared.Outcome.{Outcome}
 use Rattle.plain.specs.Book as plain
 use Rattle.plain.specs.Calls.{Call, pairedPiece}
@@ -26,17 +27,37 @@ use Rattle.positions.specs.Dealing.{Dealing, dealtOut, HandedOut, ClosedBefore}
 use Rattle.positions.specs.Pairing.{SettingOff}
 use Rattle.kept.specs.View.{Kept, Valid, view, answer}
 use Rattle.calls.specs.declared.Core.{Core}
-use Rattle.calls.specs.declared.Followed.{Followed}
 
--- the numbers of the lent tables: positions, trades, awards, and the counts of late open shorts
+-- the numbers of what is lent: the tables of positions, trades and awards, the counts of late open shorts, for each security the place where the walk of
+-- a discharge starts and its word of failing members, and the two columns of the accounts
 pub record Numbers : Type 0 where
   pub rows : List ℕ
   pub trades : List ℕ
   pub awards : List ℕ
   pub counts : List ℕ
+  pub starts : List ℕ
+  pub words : List ℕ
+  pub ledger : Ledger
 
-abbrev pub numbers : List ℕ → List ℕ → List ℕ → List ℕ → Numbers
-numbers rows trades awards counts = record { rows = rows; trades = trades; awards = awards; counts = counts }
+abbrev pub numbers : List ℕ → List ℕ → List ℕ → List ℕ → List ℕ → List ℕ → Ledger → Numbers
+numbers rows trades awards counts starts words ledger =
+    record { rows = rows; trades = trades; awards = awards; counts = counts; starts = starts; words = words; ledger = ledger }
+
+-- any numbers, with these for one of the tables: what a call that takes only that table speaks of
+abbrev pub onRows : Numbers → List ℕ → Numbers
+onRows a x = numbers x (a .trades) (a .awards) (a .counts) (a .starts) (a .words) (a .ledger)
+
+abbrev pub onTrades : Numbers → List ℕ → Numbers
+onTrades a x = numbers (a .rows) x (a .awards) (a .counts) (a .starts) (a .words) (a .ledger)
+
+abbrev pub onAwards : Numbers → List ℕ → Numbers
+onAwards a x = numbers (a .rows) (a .trades) x (a .counts) (a .starts) (a .words) (a .ledger)
+
+abbrev pub onWords : Numbers → List ℕ → Numbers
+onWords a x = numbers (a .rows) (a .trades) (a .awards) (a .counts) (a .starts) x (a .ledger)
+
+abbrev pub onLedger : Numbers → Ledger → Numbers
+onLedger a x = numbers (a .rows) (a .trades) (a .awards) (a .counts) (a .starts) (a .words) x
 
 -- the book as one record: its tables are made of the numbers
 abbrev pub keptOf : Core → Numbers → Kept
@@ -50,7 +71,7 @@ keptOf b a =
       auction = b .auction;
       awards = awardTable (a .awards) (b .awards);
       marks = b .marks;
-      ledger = b .ledger;
+      ledger = a .ledger;
     }
 
 -- the plain book that a core and the numbers stand for
@@ -67,10 +88,22 @@ pub record Started (count : ℕ) (starts : List ℕ) (items : List Position) : T
   pub within : (s : ℕ) → plain.nth 0 starts s ≤ count
   pub closed : (s : ℕ) → 1 ≤ s → ClosedBefore s items (plain.nth 0 starts s)
 
+-- the places where walks start and the words of failing members, with the place before which all positions are late
+pub record Followed : Type 0 where
+  pub starts : List ℕ
+  pub words : List ℕ
+  pub late : ℕ
+
+abbrev pub followed : List ℕ → List ℕ → ℕ → Followed
+followed starts words late = record { starts = starts; words = words; late = late }
+
+abbrev pub followedIn : Core → Numbers → Followed
+followedIn b a = followed (a .starts) (a .words) (b .late)
+
 -- what is followed of the positions besides: where the walk of a discharge starts, who is failing, and up to where positions are late
 pub record Follows (day : ℕ) (rows : List ℕ) (count : ℕ) (counts : List ℕ) (f : Followed) : Type 0 where
   pub started : Started count (f .starts) (rowsOf rows)
-  pub failing : Counted day (heldIn rows count) (f .failing .words) counts
+  pub failing : Counted day (heldIn rows count) (f .words) counts
   pub late : LateBefore day (heldIn rows count) (f .late)
 
 -- the numbers have their places, and what the core follows is true of them
@@ -78,7 +111,7 @@ pub record Lent (b : Core) (a : Numbers) : Type 0 where
   pub rows : length (a .rows) ≡ 12288
   pub trades : length (a .trades) ≡ 3584
   pub awards : length (a .awards) ≡ 1280
-  pub follows : Follows (b .day .0) (a .rows) (b .positions) (a .counts) (b .followed)
+  pub follows : Follows (b .day .0) (a .rows) (b .positions) (a .counts) (followedIn b a)
 
 -- what holds of every core with its numbers that opening or a call leaves. A core's fields are private, so that no other code makes one; numbers that
 -- other code has changed do not meet this, and no call takes them.
@@ -159,9 +192,12 @@ pub record CashTerms (b : Core) (rows : List ℕ) (n : ℕ) (p : Position) (clas
   pub classed : class ≡ plain.nth 0 (b .opening .register .classes) (p .security)
   pub priced : latest ≡ plain.nth plain.noPrice (table.prices (b .prices)) (p .security) .price
 
--- the numbers that are lent with a new book: no short is late, and the tables have their places
+-- the numbers that are lent with a new book: no short is late, no walk was made, no account has a cent, and the tables have their places
 pub record Blank (a : Numbers) : Type 0 where
   pub rows : length (a .rows) ≡ 12288
   pub trades : length (a .trades) ≡ 3584
   pub awards : length (a .awards) ≡ 1280
   pub counts : a .counts ≡ replicate 2048 0
+  pub starts : a .starts ≡ replicate SECURITIES 0
+  pub words : a .words ≡ replicate SECURITIES 0
+  pub ledger : (a .ledger .credits ≡ replicate ACCOUNTS 0) × (a .ledger .debits ≡ replicate ACCOUNTS 0)

@@ -7,7 +7,7 @@ ghost use Rattle.laws.specs.Limits.{ATTEMPTS};
 ghost use Rattle.events.specs.declared.Event.the-variants as event;
 ghost use Rattle.plain.specs.Calls.{call};
 ghost use Rattle.calls.specs.Cores.{attemptedCore};
-ghost use Rattle.calls.specs.View.{numbers, Held, CalledBare};
+ghost use Rattle.calls.specs.View.{Numbers, onRows, onAwards, onWords, Held, CalledBare};
 use crate::Answered;
 use crate::Core;
 use crate::class_of;
@@ -17,6 +17,7 @@ use crate::price_of;
 use crate::refused;
 use events::Attempt;
 use events::Offer;
+use laws::SECURITIES;
 use refusals::NOT_THERE;
 
 // The position is marked, and its auction opens without an offer.
@@ -39,8 +40,8 @@ fn open_auction(core: Core, position: u16, ceiling: u64) -> Core
 }
 
 pub fn attempt(core: Core, rows: &[u32; 12288], a: Attempt) -> Answered
-    requires { ⌜ ((trades awards counts : List ℕ) × Held core (numbers (now rows) trades awards counts)) ⌝ }
-    ensures { λ r. ⌜ ((trades awards counts : List ℕ) → Held core (numbers (now (rows .entry)) trades awards counts) → CalledBare core (numbers (now (rows .entry)) trades awards counts) (call (event.Attempt a) 0) (r .core) (numbers (now (rows .entry)) trades awards counts) (r .outcome) (r .pieces)) ⌝ }
+    requires { ⌜ ((others : Numbers) × Held core (onRows others (now rows))) ⌝ }
+    ensures { λ r. ⌜ ((others : Numbers) → Held core (onRows others (now (rows .entry))) → CalledBare core (onRows others (now (rows .entry))) (call (event.Attempt a) 0) (r .core) (onRows others (now (rows .entry))) (r .outcome) (r .pieces)) ⌝ }
 {
     if !refusals::is_within(1, core.positions, a.position as usize) {
         return refused(core, NOT_THERE);
@@ -69,9 +70,9 @@ pub fn attempt(core: Core, rows: &[u32; 12288], a: Attempt) -> Answered
 }
 
 // The offerer is tested against the word of the security that is auctioned.
-pub fn offer(core: Core, rows: &[u32; 12288], o: Offer) -> Answered
-    requires { ⌜ ((trades awards counts : List ℕ) × Held core (numbers (now rows) trades awards counts)) ⌝ }
-    ensures { λ r. ⌜ ((trades awards counts : List ℕ) → Held core (numbers (now (rows .entry)) trades awards counts) → CalledBare core (numbers (now (rows .entry)) trades awards counts) (call (event.Offer o) 0) (r .core) (numbers (now (rows .entry)) trades awards counts) (r .outcome) (r .pieces)) ⌝ }
+pub fn offer(core: Core, rows: &[u32; 12288], words: &[u64; SECURITIES], o: Offer) -> Answered
+    requires { ⌜ ((others : Numbers) × Held core (onWords (onRows others (now rows)) (now words))) ⌝ }
+    ensures { λ r. ⌜ ((others : Numbers) → Held core (onWords (onRows others (now (rows .entry))) (now (words .entry))) → CalledBare core (onWords (onRows others (now (rows .entry))) (now (words .entry))) (call (event.Offer o) 0) (r .core) (onWords (onRows others (now (rows .entry))) (now (words .entry))) (r .outcome) (r .pieces)) ⌝ }
 {
     let first = refusals::offer_refusal(core.positions, core.auction.position, o);
     if first != 0 {
@@ -79,7 +80,7 @@ pub fn offer(core: Core, rows: &[u32; 12288], o: Offer) -> Answered
     }
     let place = (o.position - 1) as usize;
     let short = rows::row_at(rows, place);
-    let word = failing::word_of(core.followed.failing, short.security);
+    let word = failing::word_of(words, short.security);
     let fails = failing::is_failing(word, o.offerer);
     let number = refusals::auction_refusal(
         fails,
@@ -106,8 +107,8 @@ pub fn award(
     awards: &mut [u32; 1280],
     a: events::Award,
 ) -> Answered
-    requires { ⌜ ((trades counts : List ℕ) × Held core (numbers (now rows) trades (now awards) counts)) ⌝ }
-    ensures { λ r. ⌜ ((trades counts : List ℕ) → Held core (numbers (now (rows .entry)) trades (now (awards .entry)) counts) → CalledBare core (numbers (now (rows .entry)) trades (now (awards .entry)) counts) (call (event.Award a) 0) (r .core) (numbers (now (rows .entry)) trades (now (awards .exit)) counts) (r .outcome) (r .pieces)) ⌝ }
+    requires { ⌜ ((others : Numbers) × Held core (onAwards (onRows others (now rows)) (now awards))) ⌝ }
+    ensures { λ r. ⌜ ((others : Numbers) → Held core (onAwards (onRows others (now (rows .entry))) (now (awards .entry))) → CalledBare core (onAwards (onRows others (now (rows .entry))) (now (awards .entry))) (call (event.Award a) 0) (r .core) (onAwards (onRows others (now (rows .entry))) (now (awards .exit))) (r .outcome) (r .pieces)) ⌝ }
 {
     let number = refusals::award_refusal(core.positions, core.auction.position, a.position);
     if number != 0 {

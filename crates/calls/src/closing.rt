@@ -9,22 +9,30 @@ ghost use Rattle.plain.specs.Calls.{call};
 ghost use Rattle.tables.specs.Lent.{positionTable, awardTable};
 ghost use Rattle.ledger.specs.Parts.{closeChargesOf};
 ghost use Rattle.calls.specs.Cores.{closedCore};
-ghost use Rattle.calls.specs.View.{numbers, Held, CalledBare, Taken};
+ghost use Rattle.ledger.specs.Posts.{ledgerOf};
+ghost use Rattle.calls.specs.View.{Numbers, numbers, onRows, onAwards, onLedger, Held, CalledBare, Taken};
 use crate::Answered;
 use crate::Core;
 use crate::done;
 use crate::refused;
-use failing::Raised;
+use laws::ACCOUNTS;
 use laws::BusinessDay;
-use plain::Ledger;
+use laws::SECURITIES;
 
 // The accounts with the charges of a close, which go by the positions and awards as they are.
-fn fined(core: Core, rows: &[u32; 12288], awards: &[u32; 1280]) -> Ledger
-    requires { ⌜ ((trades counts : List ℕ) × Taken core (numbers (now rows) trades (now awards) counts) (call event.Close 0)) ⌝ }
-    ensures { λ r. ⌜ r ≡ posted (core .ledger) (closeChargesOf (awardTable (now (awards .entry)) (core .awards)) (positionTable (now (rows .entry)) (core .positions)) (core .prices) (core .opening .register) (core .day)) ⌝ }
+fn fined(
+    core: Core,
+    rows: &[u32; 12288],
+    awards: &[u32; 1280],
+    credits: &mut [u64; ACCOUNTS],
+    debits: &mut [u64; ACCOUNTS],
+)
+    requires { ⌜ ((others : Numbers) × Taken core (onLedger (onAwards (onRows others (now rows)) (now awards)) (ledgerOf (now credits) (now debits))) (call event.Close 0)) ⌝ }
+    ensures { λ r. ⌜ ledgerOf (now (credits .exit)) (now (debits .exit)) ≡ posted (ledgerOf (now (credits .entry)) (now (debits .entry))) (closeChargesOf (awardTable (now (awards .entry)) (core .awards)) (positionTable (now (rows .entry)) (core .positions)) (core .prices) (core .opening .register) (core .day)) ⌝ }
 {
     ledger::post_close(
-        core.ledger,
+        credits,
+        debits,
         awards,
         core.awards,
         rows,
@@ -32,23 +40,18 @@ fn fined(core: Core, rows: &[u32; 12288], awards: &[u32; 1280]) -> Ledger
         core.prices,
         core.opening.register,
         core.day,
-    )
+    );
 }
 
 // The small parts on the next day: no trade is left to net, awards and attempt marks are cleared.
-fn next_day(core: Core, ledger: Ledger, raised: Raised, positions: usize) -> Core
+fn next_day(core: Core, late: usize, positions: usize) -> Core
     requires { ⌜ core .day .0 < LAST-DAY ⌝ }
-    ensures { λ r. ⌜ r ≡ closedCore core ledger raised positions ⌝ }
+    ensures { λ r. ⌜ r ≡ closedCore core late positions ⌝ }
 {
     let tomorrow = BusinessDay(core.day.0 + 1);
     let held = core.trades;
-    let words = raised.words;
-    let mut followed = core.followed;
-    followed.failing = words;
-    followed.late = raised.late;
     let mut after = core;
-    after.ledger = ledger;
-    after.followed = followed;
+    after.late = late;
     after.positions = positions;
     after.netted = held;
     after.awards = 0;
@@ -64,18 +67,20 @@ pub fn close(
     trades: &[u32; 3584],
     awards: &[u32; 1280],
     counts: &mut [u32; 2048],
+    words: &mut [u64; SECURITIES],
+    credits: &mut [u64; ACCOUNTS],
+    debits: &mut [u64; ACCOUNTS],
 ) -> Answered
-    requires { ⌜ Held core (numbers (now rows) (now trades) (now awards) (now counts)) ⌝ }
-    ensures { λ r. ⌜ CalledBare core (numbers (now (rows .entry)) (now (trades .entry)) (now (awards .entry)) (now (counts .entry))) (call event.Close 0) (r .core) (numbers (now (rows .exit)) (now (trades .entry)) (now (awards .entry)) (now (counts .exit))) (r .outcome) (r .pieces) ⌝ }
+    requires { ⌜ ((starts : List ℕ) × Held core (numbers (now rows) (now trades) (now awards) (now counts) starts (now words) (ledgerOf (now credits) (now debits)))) ⌝ }
+    ensures { λ r. ⌜ ((starts : List ℕ) → Held core (numbers (now (rows .entry)) (now (trades .entry)) (now (awards .entry)) (now (counts .entry)) starts (now (words .entry)) (ledgerOf (now (credits .entry)) (now (debits .entry)))) → CalledBare core (numbers (now (rows .entry)) (now (trades .entry)) (now (awards .entry)) (now (counts .entry)) starts (now (words .entry)) (ledgerOf (now (credits .entry)) (now (debits .entry)))) (call event.Close 0) (r .core) (numbers (now (rows .exit)) (now (trades .entry)) (now (awards .entry)) (now (counts .exit)) starts (now (words .exit)) (ledgerOf (now (credits .exit)) (now (debits .exit)))) (r .outcome) (r .pieces)) ⌝ }
 {
     let number = refusals::close_refusal(core.auction.position, core.day);
     if number != 0 {
         return refused(core, number);
     }
-    let ledger = fined(core, rows, awards);
+    fined(core, rows, awards, credits, debits);
     let held = core.positions;
-    let words = core.followed.failing;
-    let raised = failing::raise_late(words, counts, rows, held, core.followed.late, core.day);
+    let late = failing::raise_late(words, counts, rows, held, core.late, core.day);
     let made = netting::net_day(
         rows,
         held,
@@ -85,6 +90,6 @@ pub fn close(
         core.day,
         core.opening.register.count,
     );
-    let after = next_day(core, ledger, raised, made);
+    let after = next_day(core, late, made);
     done(after, 0, 0)
 }

@@ -10,11 +10,11 @@ ghost use Rattle.plain.specs.Book.{nth, noAward};
 ghost use Rattle.plain.specs.Calls.{call};
 ghost use Rattle.laws.specs.Asked.{Within};
 ghost use Rattle.rows.specs.Rows.{awardsOf};
-ghost use Rattle.calls.specs.Cores.{dischargedCore};
-ghost use Rattle.calls.specs.View.{numbers, Held, CalledOn, Discharging, Discharged, Taken, CashTerms};
+ghost use Rattle.plain.specs.declared.Ledger.{Ledger};
+ghost use Rattle.ledger.specs.Posts.{ledgerOf};
+ghost use Rattle.calls.specs.View.{numbers, followed, Held, CalledOn, Discharging, Discharged, Taken, CashTerms};
 use crate::Answered;
 use crate::Core;
-use crate::Followed;
 use crate::class_of;
 use crate::done;
 use crate::latest_of;
@@ -23,55 +23,46 @@ use crate::refused;
 use events::Cash;
 use events::Confirm;
 use events::Delivery;
+use laws::ACCOUNTS;
 use laws::BusinessDay;
 use laws::PLACES;
+use laws::SECURITIES;
 use plain::Award;
-use plain::Ledger;
 use plain::Manner;
 use plain::Position;
 
-// What dealing out a discharge leaves of what is followed, and how many pieces it made.
-struct Dealt {
-    followed: Followed,
-    pieces: usize,
-}
-
-fn start_of(followed: Followed, security: u16) -> usize
-    requires { ⌜ (length (followed .starts) ≡ SECURITIES) × (Within 1 SECURITIES security) ⌝ }
-    ensures { λ r. ⌜ r ≡ nth 0 (followed .starts) security ⌝ }
+fn start_of(starts: &[usize; SECURITIES], security: u16) -> usize
+    requires { ⌜ (length (now starts) ≡ SECURITIES) × (Within 1 SECURITIES security) ⌝ }
+    ensures { λ r. ⌜ r ≡ nth 0 (now (starts .entry)) security ⌝ }
 {
     let k = (security - 1) as usize;
-    followed.starts[k] as usize
+    starts[k]
 }
 
 // A discharge of the short `p`, given as its row has it, dealt out. The walk starts where the first open long of the security may be, and the next one
-// starts where it ended.
+// starts where it ended. The answer is the number of pieces.
 fn discharge(
     rows: &mut [u32; 12288],
     counts: &mut [u32; 2048],
+    starts: &mut [usize; SECURITIES],
+    words: &mut [u64; SECURITIES],
     sheet: &mut [u64; 4096],
     held: usize,
     day: BusinessDay,
-    followed: Followed,
     position: u16,
     p: Position,
     quantity: u32,
     manner: Manner,
-) -> Dealt
-    requires { ⌜ Discharging (day .0) (now rows) held (now counts) (now sheet) followed position p quantity manner ⌝ }
-    ensures { λ r. ⌜ Discharged (day .0) (now (rows .entry)) held position quantity manner (now (rows .exit)) (now (counts .exit)) (now (sheet .exit)) (r .followed) (r .pieces) ⌝ }
+) -> usize
+    requires { ⌜ ((late : ℕ) × Discharging (day .0) (now rows) held (now counts) (now sheet) (followed (now starts) (now words) late) position p quantity manner) ⌝ }
+    ensures { λ r. ⌜ ((late : ℕ) → Discharging (day .0) (now (rows .entry)) held (now (counts .entry)) (now (sheet .entry)) (followed (now (starts .entry)) (now (words .entry)) late) position p quantity manner → Discharged (day .0) (now (rows .entry)) held position quantity manner (now (rows .exit)) (now (counts .exit)) (now (sheet .exit)) (followed (now (starts .exit)) (now (words .exit)) late) r) ⌝ }
 {
-    let start = start_of(followed, p.security);
+    let start = start_of(starts, p.security);
     let walked = positions::deal(rows, sheet, held, day, position, quantity, manner, start);
-    let failing = failing::discharged(followed.failing, counts, p, quantity, day);
+    failing::discharged(words, counts, p, quantity, day);
     let k = (p.security - 1) as usize;
-    let mut after = followed;
-    after.starts[k] = walked.end as u16;
-    after.failing = failing;
-    Dealt {
-        followed: after,
-        pieces: walked.pieces,
-    }
+    starts[k] = walked.end;
+    walked.pieces
 }
 
 pub fn delivery(
@@ -79,11 +70,13 @@ pub fn delivery(
     rows: &mut [u32; 12288],
     awards: &[u32; 1280],
     counts: &mut [u32; 2048],
+    starts: &mut [usize; SECURITIES],
+    words: &mut [u64; SECURITIES],
     sheet: &mut [u64; 4096],
     d: Delivery,
 ) -> Answered
-    requires { ⌜ ((trades : List ℕ) × Held core (numbers (now rows) trades (now awards) (now counts))) × (length (now sheet) ≡ 4096) ⌝ }
-    ensures { λ r. ⌜ ((trades : List ℕ) → Held core (numbers (now (rows .entry)) trades (now (awards .entry)) (now (counts .entry))) → CalledOn core (numbers (now (rows .entry)) trades (now (awards .entry)) (now (counts .entry))) (call (event.Delivery d) PLACES) manner.Delivered (now (sheet .entry)) (r .core) (numbers (now (rows .exit)) trades (now (awards .entry)) (now (counts .exit))) (now (sheet .exit)) (r .outcome) (r .pieces)) ⌝ }
+    requires { ⌜ ((trades : List ℕ) × (accounts : Ledger) × Held core (numbers (now rows) trades (now awards) (now counts) (now starts) (now words) accounts)) × (length (now sheet) ≡ 4096) ⌝ }
+    ensures { λ r. ⌜ ((trades : List ℕ) (accounts : Ledger) → Held core (numbers (now (rows .entry)) trades (now (awards .entry)) (now (counts .entry)) (now (starts .entry)) (now (words .entry)) accounts) → CalledOn core (numbers (now (rows .entry)) trades (now (awards .entry)) (now (counts .entry)) (now (starts .entry)) (now (words .entry)) accounts) (call (event.Delivery d) PLACES) manner.Delivered (now (sheet .entry)) (r .core) (numbers (now (rows .exit)) trades (now (awards .entry)) (now (counts .exit)) (now (starts .exit)) (now (words .exit)) accounts) (now (sheet .exit)) (r .outcome) (r .pieces)) ⌝ }
 {
     let missing = refusals::lookup_refusal(PLACES, core.positions, d.position);
     if missing != 0 {
@@ -96,32 +89,20 @@ pub fn delivery(
     if number != 0 {
         return refused(core, number);
     }
-    let dealt = discharge(
+    let made = discharge(
         rows,
         counts,
+        starts,
+        words,
         sheet,
         core.positions,
         core.day,
-        core.followed,
         d.position,
         p,
         d.quantity,
         Manner::Delivered,
     );
-    let followed = dealt.followed;
-    let mut after = core;
-    after.followed = followed;
-    done(after, d.quantity, dealt.pieces)
-}
-
-// The small parts after a discharge that was charged for.
-fn charged(core: Core, followed: Followed, ledger: Ledger) -> Core
-    ensures { λ r. ⌜ r ≡ dischargedCore core followed ledger ⌝ }
-{
-    let mut after = core;
-    after.followed = followed;
-    after.ledger = ledger;
-    after
+    done(core, d.quantity, made)
 }
 
 // The award's units are bought in, charged to the short's member, and the award is marked.
@@ -130,37 +111,42 @@ fn buy_in(
     rows: &mut [u32; 12288],
     awards: &mut [u32; 1280],
     counts: &mut [u32; 2048],
+    starts: &mut [usize; SECURITIES],
+    words: &mut [u64; SECURITIES],
+    credits: &mut [u64; ACCOUNTS],
+    debits: &mut [u64; ACCOUNTS],
     sheet: &mut [u64; 4096],
     c: Confirm,
     award: Award,
 ) -> Answered
-    requires { ⌜ ((trades : List ℕ) × Taken core (numbers (now rows) trades (now awards) (now counts)) (call (event.Confirm c) PLACES)) × (award ≡ getD (awardsOf (now awards)) (c .award - 1) noAward) × (length (now sheet) ≡ 4096) ⌝ }
-    ensures { λ r. ⌜ ((trades : List ℕ) → Taken core (numbers (now (rows .entry)) trades (now (awards .entry)) (now (counts .entry))) (call (event.Confirm c) PLACES) → CalledOn core (numbers (now (rows .entry)) trades (now (awards .entry)) (now (counts .entry))) (call (event.Confirm c) PLACES) manner.BoughtIn (now (sheet .entry)) (r .core) (numbers (now (rows .exit)) trades (now (awards .exit)) (now (counts .exit))) (now (sheet .exit)) (r .outcome) (r .pieces)) ⌝ }
+    requires { ⌜ ((trades : List ℕ) × Taken core (numbers (now rows) trades (now awards) (now counts) (now starts) (now words) (ledgerOf (now credits) (now debits))) (call (event.Confirm c) PLACES)) × (award ≡ getD (awardsOf (now awards)) (c .award - 1) noAward) × (length (now sheet) ≡ 4096) ⌝ }
+    ensures { λ r. ⌜ ((trades : List ℕ) → Taken core (numbers (now (rows .entry)) trades (now (awards .entry)) (now (counts .entry)) (now (starts .entry)) (now (words .entry)) (ledgerOf (now (credits .entry)) (now (debits .entry)))) (call (event.Confirm c) PLACES) → CalledOn core (numbers (now (rows .entry)) trades (now (awards .entry)) (now (counts .entry)) (now (starts .entry)) (now (words .entry)) (ledgerOf (now (credits .entry)) (now (debits .entry)))) (call (event.Confirm c) PLACES) manner.BoughtIn (now (sheet .entry)) (r .core) (numbers (now (rows .exit)) trades (now (awards .exit)) (now (counts .exit)) (now (starts .exit)) (now (words .exit)) (ledgerOf (now (credits .exit)) (now (debits .exit)))) (now (sheet .exit)) (r .outcome) (r .pieces)) ⌝ }
 {
     let place = (award.position - 1) as usize;
     let p = rows::row_at(rows, place);
-    let dealt = discharge(
+    let made = discharge(
         rows,
         counts,
+        starts,
+        words,
         sheet,
         core.positions,
         core.day,
-        core.followed,
         award.position,
         p,
         award.quantity,
         Manner::BoughtIn,
     );
-    let ledger = ledger::post_buy_in(
-        core.ledger,
+    ledger::post_buy_in(
+        credits,
+        debits,
         p.member,
         award.quantity,
         award.price,
         p.reference,
     );
     auction::confirm_award(awards, core.awards, c.award);
-    let after = charged(core, dealt.followed, ledger);
-    done(after, award.quantity, dealt.pieces)
+    done(core, award.quantity, made)
 }
 
 pub fn confirm(
@@ -168,11 +154,15 @@ pub fn confirm(
     rows: &mut [u32; 12288],
     awards: &mut [u32; 1280],
     counts: &mut [u32; 2048],
+    starts: &mut [usize; SECURITIES],
+    words: &mut [u64; SECURITIES],
+    credits: &mut [u64; ACCOUNTS],
+    debits: &mut [u64; ACCOUNTS],
     sheet: &mut [u64; 4096],
     c: Confirm,
 ) -> Answered
-    requires { ⌜ ((trades : List ℕ) × Held core (numbers (now rows) trades (now awards) (now counts))) × (length (now sheet) ≡ 4096) ⌝ }
-    ensures { λ r. ⌜ ((trades : List ℕ) → Held core (numbers (now (rows .entry)) trades (now (awards .entry)) (now (counts .entry))) → CalledOn core (numbers (now (rows .entry)) trades (now (awards .entry)) (now (counts .entry))) (call (event.Confirm c) PLACES) manner.BoughtIn (now (sheet .entry)) (r .core) (numbers (now (rows .exit)) trades (now (awards .exit)) (now (counts .exit))) (now (sheet .exit)) (r .outcome) (r .pieces)) ⌝ }
+    requires { ⌜ ((trades : List ℕ) × Held core (numbers (now rows) trades (now awards) (now counts) (now starts) (now words) (ledgerOf (now credits) (now debits)))) × (length (now sheet) ≡ 4096) ⌝ }
+    ensures { λ r. ⌜ ((trades : List ℕ) → Held core (numbers (now (rows .entry)) trades (now (awards .entry)) (now (counts .entry)) (now (starts .entry)) (now (words .entry)) (ledgerOf (now (credits .entry)) (now (debits .entry)))) → CalledOn core (numbers (now (rows .entry)) trades (now (awards .entry)) (now (counts .entry)) (now (starts .entry)) (now (words .entry)) (ledgerOf (now (credits .entry)) (now (debits .entry)))) (call (event.Confirm c) PLACES) manner.BoughtIn (now (sheet .entry)) (r .core) (numbers (now (rows .exit)) trades (now (awards .exit)) (now (counts .exit)) (now (starts .exit)) (now (words .exit)) (ledgerOf (now (credits .exit)) (now (debits .exit)))) (now (sheet .exit)) (r .outcome) (r .pieces)) ⌝ }
 {
     let missing = refusals::lookup_refusal(PLACES, core.awards, c.award);
     if missing != 0 {
@@ -184,7 +174,19 @@ pub fn confirm(
     if number != 0 {
         return refused(core, number);
     }
-    buy_in(core, rows, awards, counts, sheet, c, award)
+    buy_in(
+        core,
+        rows,
+        awards,
+        counts,
+        starts,
+        words,
+        credits,
+        debits,
+        sheet,
+        c,
+        award,
+    )
 }
 
 // All that is open of the short `p` is settled: dealt out, then priced and paid for on the sheet, with the fee.
@@ -192,43 +194,50 @@ fn settle(
     core: Core,
     rows: &mut [u32; 12288],
     counts: &mut [u32; 2048],
+    starts: &mut [usize; SECURITIES],
+    words: &mut [u64; SECURITIES],
+    credits: &mut [u64; ACCOUNTS],
+    debits: &mut [u64; ACCOUNTS],
     sheet: &mut [u64; 4096],
     c: Cash,
     p: Position,
     class: u8,
     latest: u32,
 ) -> Answered
-    requires { ⌜ ((trades awards : List ℕ) × Taken core (numbers (now rows) trades awards (now counts)) (call (event.Cash c) PLACES)) × (CashTerms core (now rows) (c .position) p class latest) × (length (now sheet) ≡ 4096) ⌝ }
-    ensures { λ r. ⌜ ((trades awards : List ℕ) → Taken core (numbers (now (rows .entry)) trades awards (now (counts .entry))) (call (event.Cash c) PLACES) → CalledOn core (numbers (now (rows .entry)) trades awards (now (counts .entry))) (call (event.Cash c) PLACES) manner.Cash (now (sheet .entry)) (r .core) (numbers (now (rows .exit)) trades awards (now (counts .exit))) (now (sheet .exit)) (r .outcome) (r .pieces)) ⌝ }
+    requires { ⌜ ((trades awards : List ℕ) × Taken core (numbers (now rows) trades awards (now counts) (now starts) (now words) (ledgerOf (now credits) (now debits))) (call (event.Cash c) PLACES)) × (CashTerms core (now rows) (c .position) p class latest) × (length (now sheet) ≡ 4096) ⌝ }
+    ensures { λ r. ⌜ ((trades awards : List ℕ) → Taken core (numbers (now (rows .entry)) trades awards (now (counts .entry)) (now (starts .entry)) (now (words .entry)) (ledgerOf (now (credits .entry)) (now (debits .entry)))) (call (event.Cash c) PLACES) → CalledOn core (numbers (now (rows .entry)) trades awards (now (counts .entry)) (now (starts .entry)) (now (words .entry)) (ledgerOf (now (credits .entry)) (now (debits .entry)))) (call (event.Cash c) PLACES) manner.Cash (now (sheet .entry)) (r .core) (numbers (now (rows .exit)) trades awards (now (counts .exit)) (now (starts .exit)) (now (words .exit)) (ledgerOf (now (credits .exit)) (now (debits .exit)))) (now (sheet .exit)) (r .outcome) (r .pieces)) ⌝ }
 {
-    let dealt = discharge(
+    let made = discharge(
         rows,
         counts,
+        starts,
+        words,
         sheet,
         core.positions,
         core.day,
-        core.followed,
         c.position,
         p,
         p.unsettled,
         Manner::Cash,
     );
-    let made = dealt.pieces;
     let held = core.positions;
-    let ledger = ledger::post_cash(core.ledger, rows, held, sheet, made, p, class, latest);
-    let after = charged(core, dealt.followed, ledger);
-    done(after, p.unsettled, made)
+    ledger::post_cash(credits, debits, rows, held, sheet, made, p, class, latest);
+    done(core, p.unsettled, made)
 }
 
 pub fn cash(
     core: Core,
     rows: &mut [u32; 12288],
     counts: &mut [u32; 2048],
+    starts: &mut [usize; SECURITIES],
+    words: &mut [u64; SECURITIES],
+    credits: &mut [u64; ACCOUNTS],
+    debits: &mut [u64; ACCOUNTS],
     sheet: &mut [u64; 4096],
     c: Cash,
 ) -> Answered
-    requires { ⌜ ((trades awards : List ℕ) × Held core (numbers (now rows) trades awards (now counts))) × (length (now sheet) ≡ 4096) ⌝ }
-    ensures { λ r. ⌜ ((trades awards : List ℕ) → Held core (numbers (now (rows .entry)) trades awards (now (counts .entry))) → CalledOn core (numbers (now (rows .entry)) trades awards (now (counts .entry))) (call (event.Cash c) PLACES) manner.Cash (now (sheet .entry)) (r .core) (numbers (now (rows .exit)) trades awards (now (counts .exit))) (now (sheet .exit)) (r .outcome) (r .pieces)) ⌝ }
+    requires { ⌜ ((trades awards : List ℕ) × Held core (numbers (now rows) trades awards (now counts) (now starts) (now words) (ledgerOf (now credits) (now debits)))) × (length (now sheet) ≡ 4096) ⌝ }
+    ensures { λ r. ⌜ ((trades awards : List ℕ) → Held core (numbers (now (rows .entry)) trades awards (now (counts .entry)) (now (starts .entry)) (now (words .entry)) (ledgerOf (now (credits .entry)) (now (debits .entry)))) → CalledOn core (numbers (now (rows .entry)) trades awards (now (counts .entry)) (now (starts .entry)) (now (words .entry)) (ledgerOf (now (credits .entry)) (now (debits .entry)))) (call (event.Cash c) PLACES) manner.Cash (now (sheet .entry)) (r .core) (numbers (now (rows .exit)) trades awards (now (counts .exit)) (now (starts .exit)) (now (words .exit)) (ledgerOf (now (credits .exit)) (now (debits .exit)))) (now (sheet .exit)) (r .outcome) (r .pieces)) ⌝ }
 {
     let missing = refusals::lookup_refusal(PLACES, core.positions, c.position);
     if missing != 0 {
@@ -244,5 +253,18 @@ pub fn cash(
         return refused(core, number);
     }
     let price = price_of(latest);
-    settle(core, rows, counts, sheet, c, p, class, price)
+    settle(
+        core,
+        rows,
+        counts,
+        starts,
+        words,
+        credits,
+        debits,
+        sheet,
+        c,
+        p,
+        class,
+        price,
+    )
 }

@@ -1,6 +1,7 @@
-// The ten calls in place. The core of a book goes in and comes back by value; its tables of positions, trades and awards, and the counts of
-// late open shorts, are numbers that a caller lends, and are changed where they stand. A call takes the tables that it needs; of the others
-// its contract says that they may be any with which the core is held.
+// The ten calls in place. The core of a book goes in and comes back by value; its tables of positions, trades and awards, the counts of
+// late open shorts, the places where walks start, the words of failing members and the accounts are numbers that a caller lends, and are
+// changed where they stand. A call takes what it needs of them; of the others its contract says that they may be any with which the core is
+// held. A discharge changes no part of the core.
 mod auctions;
 mod closing;
 mod discharge;
@@ -20,10 +21,12 @@ pub use opening::blank_awards;
 pub use opening::blank_rows;
 pub use opening::blank_trades;
 pub use opening::new_core;
+pub use opening::no_cents;
 pub use opening::no_counts;
+pub use opening::no_starts;
+pub use opening::no_words;
 pub use opening::open_core;
 pub use pairing::pair_off;
-pub use reading::accounts;
 pub use reading::award_at;
 pub use reading::balance;
 pub use reading::day;
@@ -43,15 +46,15 @@ ghost use Rattle.plain.specs.declared.Outcome.the-variants as outcome;
 ghost use Rattle.plain.specs.Book.{nth, noPrice, lookedUp, priceIn};
 ghost use Rattle.tables.specs.Tables as table;
 ghost use Rattle.calls.specs.Stepping.{Stepped};
+ghost use Rattle.ledger.specs.Posts.{ledgerOf};
 ghost use Rattle.calls.specs.View.{numbers, Held};
 use events::Event;
-use failing::Words;
+use laws::ACCOUNTS;
 use laws::BusinessDay;
 use laws::SECURITIES;
 use plain::Award;
 use plain::Latest;
 use plain::LatestPrice;
-use plain::Ledger;
 use plain::Opening;
 use plain::Outcome;
 use plain::Position;
@@ -59,23 +62,15 @@ use tables::Auction;
 use tables::Marks;
 use tables::Prices;
 
-// What is followed of the positions: for each security a place before which no long of it is open, and its failing members, one bit a
-// member; and the place before which all positions are late and from which on none is.
-pub struct Followed {
-    starts: [u16; SECURITIES],
-    failing: Words,
-    late: usize,
-}
-
-// The small parts of a book, and how many places of each table are in use. The first `netted` trades are of earlier days.
+// The small parts of a book, and how many places of each table are in use. The first `netted` trades are of earlier days. All positions
+// before the place `late` are late, and from it on none is.
 pub struct Core {
     opening: Opening,
     day: BusinessDay,
     prices: Prices,
     auction: Auction,
     marks: Marks,
-    ledger: Ledger,
-    followed: Followed,
+    late: usize,
     positions: usize,
     trades: usize,
     netted: usize,
@@ -181,22 +176,37 @@ pub fn step(
     trades: &mut [u32; 3584],
     awards: &mut [u32; 1280],
     counts: &mut [u32; 2048],
+    starts: &mut [usize; SECURITIES],
+    words: &mut [u64; SECURITIES],
+    credits: &mut [u64; ACCOUNTS],
+    debits: &mut [u64; ACCOUNTS],
     sheet: &mut [u64; 4096],
     e: Event,
 ) -> Answered
-    requires { ⌜ (Held core (numbers (now rows) (now trades) (now awards) (now counts))) × (length (now sheet) ≡ 4096) ⌝ }
-    ensures { λ r. ⌜ Stepped core (numbers (now (rows .entry)) (now (trades .entry)) (now (awards .entry)) (now (counts .entry))) e (now (sheet .entry)) (r .core) (numbers (now (rows .exit)) (now (trades .exit)) (now (awards .exit)) (now (counts .exit))) (now (sheet .exit)) (r .outcome) (r .pieces) ⌝ }
+    requires { ⌜ (Held core (numbers (now rows) (now trades) (now awards) (now counts) (now starts) (now words) (ledgerOf (now credits) (now debits)))) × (length (now sheet) ≡ 4096) ⌝ }
+    ensures { λ r. ⌜ Stepped core (numbers (now (rows .entry)) (now (trades .entry)) (now (awards .entry)) (now (counts .entry)) (now (starts .entry)) (now (words .entry)) (ledgerOf (now (credits .entry)) (now (debits .entry)))) e (now (sheet .entry)) (r .core) (numbers (now (rows .exit)) (now (trades .exit)) (now (awards .exit)) (now (counts .exit)) (now (starts .exit)) (now (words .exit)) (ledgerOf (now (credits .exit)) (now (debits .exit)))) (now (sheet .exit)) (r .outcome) (r .pieces) ⌝ }
 {
     match e {
         Event::Trade(t) => trade(core, trades, t),
         Event::Price(p) => price(core, p),
-        Event::Delivery(d) => delivery(core, rows, awards, counts, sheet, d),
+        Event::Delivery(d) => delivery(core, rows, awards, counts, starts, words, sheet, d),
         Event::Attempt(a) => attempt(core, rows, a),
-        Event::Offer(o) => offer(core, rows, o),
+        Event::Offer(o) => offer(core, rows, words, o),
         Event::Award(a) => award(core, rows, awards, a),
-        Event::Confirm(c) => confirm(core, rows, awards, counts, sheet, c),
-        Event::Cash(c) => cash(core, rows, counts, sheet, c),
-        Event::Close => close(core, rows, trades, awards, counts),
-        Event::PairOff(x) => pair_off(core, rows, awards, counts, sheet, x),
+        Event::Confirm(c) => confirm(
+            core,
+            rows,
+            awards,
+            counts,
+            starts,
+            words,
+            credits,
+            debits,
+            sheet,
+            c,
+        ),
+        Event::Cash(c) => cash(core, rows, counts, starts, words, credits, debits, sheet, c),
+        Event::Close => close(core, rows, trades, awards, counts, words, credits, debits),
+        Event::PairOff(x) => pair_off(core, rows, awards, counts, words, sheet, x),
     }
 }

@@ -8,16 +8,13 @@ ghost use Rattle.tables.specs.Tables.{prices};
 ghost use Rattle.calls.specs.Opening.{OpenedOn};
 ghost use Rattle.calls.specs.View.{Numbers, bookOf, Held, Blank};
 use crate::Core;
-use crate::Followed;
 use crate::Opened;
 use events::Offer;
-use failing::Words;
 use laws::ACCOUNTS;
 use laws::ATTEMPTS;
 use laws::BusinessDay;
 use laws::OFFERS;
 use laws::SECURITIES;
-use plain::Ledger;
 use plain::Opening;
 use tables::Auction;
 use tables::Marks;
@@ -58,28 +55,7 @@ fn no_marks() -> Marks
     Marks { items, count: 0 }
 }
 
-fn no_cents() -> Ledger
-    ensures { λ r. ⌜ (r .credits ≡ replicate ACCOUNTS 0) × (r .debits ≡ replicate ACCOUNTS 0) ⌝ }
-{
-    let credits = [0u64; ACCOUNTS];
-    let debits = [0u64; ACCOUNTS];
-    Ledger { credits, debits }
-}
-
-fn none_followed() -> Followed
-    ensures { λ r. ⌜ (r .starts ≡ replicate SECURITIES 0) × (r .failing .words ≡ replicate SECURITIES 0) × (r .late ≡ 0) ⌝ }
-{
-    let starts = [0u16; SECURITIES];
-    let words = [0u64; SECURITIES];
-    let failing = Words { words };
-    Followed {
-        starts,
-        failing,
-        late: 0,
-    }
-}
-
-// A new book. Whatever stands in the tables of positions, trades and awards that are lent with it, no definition reads; the counts are 0.
+// A new book. Whatever stands in the tables of positions, trades and awards that are lent with it, no definition reads; counts, starts, words and accounts are 0.
 pub fn new_core(opening: Opening) -> Core
     ensures { λ r. ⌜ ((a : Numbers) → Blank a → (bookOf r a ≡ new opening) × (Registered (opening .register) → Held r a)) ⌝ }
 {
@@ -87,16 +63,13 @@ pub fn new_core(opening: Opening) -> Core
     let prices = no_prices();
     let auction = no_auction();
     let marks = no_marks();
-    let ledger = no_cents();
-    let followed = none_followed();
     Core {
         opening,
         day,
         prices,
         auction,
         marks,
-        ledger,
-        followed,
+        late: 0,
         positions: 0,
         trades: 0,
         netted: 0,
@@ -104,7 +77,7 @@ pub fn new_core(opening: Opening) -> Core
     }
 }
 
-// The tables that are lent with a new book. Only the counts have to be 0.
+// What is lent with a new book. Of the tables only the counts have to be 0.
 pub fn blank_rows() -> [u32; 12288]
     ensures { λ r. ⌜ (r ≡ replicate 12288 0) × (length r ≡ 12288) ⌝ }
 {
@@ -127,6 +100,25 @@ pub fn no_counts() -> [u32; 2048]
     ensures { λ r. ⌜ r ≡ replicate 2048 0 ⌝ }
 {
     [0u32; 2048]
+}
+
+pub fn no_starts() -> [usize; SECURITIES]
+    ensures { λ r. ⌜ r ≡ replicate SECURITIES 0 ⌝ }
+{
+    [0usize; SECURITIES]
+}
+
+pub fn no_words() -> [u64; SECURITIES]
+    ensures { λ r. ⌜ r ≡ replicate SECURITIES 0 ⌝ }
+{
+    [0u64; SECURITIES]
+}
+
+// One column of the accounts.
+pub fn no_cents() -> [u64; ACCOUNTS]
+    ensures { λ r. ⌜ r ≡ replicate ACCOUNTS 0 ⌝ }
+{
+    [0u64; ACCOUNTS]
 }
 
 pub fn open_core(bytes: &[u8]) -> Opened

@@ -3,16 +3,18 @@ ghost use Prim.Native.Nat.{ℕ};
 ghost use mathlib.Core.Path.{_≡_};
 ghost use mathlib.Core.List.{List};
 ghost use Rattle.calls.specs.Reading.{positionAnswer, awardAnswer, priceAnswer, balanceAnswer};
-ghost use Rattle.calls.specs.View.{Numbers, numbers, bookOf, Held};
+ghost use Rattle.ledger.specs.Posts.{ledgerOf};
+ghost use Rattle.calls.specs.declared.Core.{Core};
+ghost use Rattle.calls.specs.View.{Numbers, onRows, onAwards, onLedger, bookOf, Held};
 use crate::AwardAnswer;
 use crate::BalanceAnswer;
 use crate::Core;
 use crate::PositionAnswer;
 use crate::PriceAnswer;
 use crate::latest_of;
+use laws::ACCOUNTS;
 use laws::BusinessDay;
 use laws::MEMBERS;
-use plain::Ledger;
 use refusals::NO_MEMBER;
 use refusals::NOT_REGISTERED;
 use refusals::NOT_THERE;
@@ -38,16 +40,9 @@ pub fn position_count(core: Core) -> usize
     core.positions
 }
 
-// All accounts at once.
-pub fn accounts(core: Core) -> Ledger
-    ensures { λ r. ⌜ r ≡ core .ledger ⌝ }
-{
-    core.ledger
-}
-
 pub fn position(core: Core, rows: &[u32; 12288], number: u16) -> PositionAnswer
-    requires { ⌜ ((trades awards counts : List ℕ) × Held core (numbers (now rows) trades awards counts)) ⌝ }
-    ensures { λ r. ⌜ ((trades awards counts : List ℕ) → Held core (numbers (now (rows .entry)) trades awards counts) → r ≡ positionAnswer (bookOf core (numbers (now (rows .entry)) trades awards counts)) number) ⌝ }
+    requires { ⌜ ((others : Numbers) × Held core (onRows others (now rows))) ⌝ }
+    ensures { λ r. ⌜ ((others : Numbers) → Held core (onRows others (now (rows .entry))) → r ≡ positionAnswer (bookOf core (onRows others (now (rows .entry)))) number) ⌝ }
 {
     let n = number as usize;
     if !refusals::is_within(1, core.positions, n) {
@@ -58,8 +53,8 @@ pub fn position(core: Core, rows: &[u32; 12288], number: u16) -> PositionAnswer
 }
 
 pub fn award_at(core: Core, awards: &[u32; 1280], number: u16) -> AwardAnswer
-    requires { ⌜ ((rows trades counts : List ℕ) × Held core (numbers rows trades (now awards) counts)) ⌝ }
-    ensures { λ r. ⌜ ((rows trades counts : List ℕ) → Held core (numbers rows trades (now (awards .entry)) counts) → r ≡ awardAnswer (bookOf core (numbers rows trades (now (awards .entry)) counts)) number) ⌝ }
+    requires { ⌜ ((others : Numbers) × Held core (onAwards others (now awards))) ⌝ }
+    ensures { λ r. ⌜ ((others : Numbers) → Held core (onAwards others (now (awards .entry))) → r ≡ awardAnswer (bookOf core (onAwards others (now (awards .entry)))) number) ⌝ }
 {
     let n = number as usize;
     if !refusals::is_within(1, core.awards, n) {
@@ -81,17 +76,16 @@ pub fn latest_price(core: Core, security: u16) -> PriceAnswer
     PriceAnswer::Found(latest)
 }
 
-pub fn balance(core: Core, account: u8) -> BalanceAnswer
-    requires { ⌜ ((a : Numbers) × Held core a) ⌝ }
-    ensures { λ r. ⌜ ((a : Numbers) → r ≡ balanceAnswer (bookOf core a) account) ⌝ }
+// The balance of an account, of the two columns of the accounts.
+pub fn balance(credits: &[u64; ACCOUNTS], debits: &[u64; ACCOUNTS], account: u8) -> BalanceAnswer
+    ensures { λ r. ⌜ ((core : Core) (others : Numbers) → r ≡ balanceAnswer (bookOf core (onLedger others (ledgerOf (now (credits .entry)) (now (debits .entry))))) account) ⌝ }
 {
     if MEMBERS < account {
         return BalanceAnswer::Refused(NO_MEMBER);
     }
     let k = account as usize;
-    let ledger = core.ledger;
-    let credit = ledger.credits[k];
-    let debit = ledger.debits[k];
+    let credit = credits[k];
+    let debit = debits[k];
     if credit < debit {
         return BalanceAnswer::Debit(debit - credit);
     }

@@ -5,7 +5,7 @@ ghost use mathlib.Core.List.{List};
 ghost use lib.ListN.{length};
 ghost use Rattle.events.specs.declared.Event.the-variants as event;
 ghost use Rattle.plain.specs.Calls.{call};
-ghost use Rattle.calls.specs.View.{Numbers, numbers, Held, CalledBare};
+ghost use Rattle.calls.specs.View.{Numbers, onTrades, Held, CalledBare};
 use crate::Answered;
 use crate::Core;
 use crate::done;
@@ -15,7 +15,7 @@ use events::Trade;
 
 pub fn trade(core: Core, trades: &mut [u32; 3584], t: Trade) -> Answered
     requires { ⌜ length (now trades) ≡ 3584 ⌝ }
-    ensures { λ r. ⌜ ((rows awards counts : List ℕ) → Held core (numbers rows (now (trades .entry)) awards counts) → CalledBare core (numbers rows (now (trades .entry)) awards counts) (call (event.Trade t) 0) (r .core) (numbers rows (now (trades .exit)) awards counts) (r .outcome) (r .pieces)) ⌝ }
+    ensures { λ r. ⌜ ((a : Numbers) → Held core (onTrades a (now (trades .entry))) → CalledBare core (onTrades a (now (trades .entry))) (call (event.Trade t) 0) (r .core) (onTrades a (now (trades .exit))) (r .outcome) (r .pieces)) ⌝ }
 {
     let number = refusals::trade_refusal(core.opening.register.count, core.trades, t);
     if number != 0 {

@@ -1,4 +1,5 @@
-// The failing members of each security, kept as a word of 64 bits, and how many late open shorts each of them holds.
+// The failing members of each security, kept as a word of 64 bits, one bit a member, and how many late open shorts each of them holds. Words
+// and counts are lent, and changed where they stand.
 // Document 01, 'Auction'.
 ghost use mathlib.Core.Path.{_≡_};
 ghost use mathlib.Core.Bool.{_&&_};
@@ -21,17 +22,6 @@ use laws::MEMBERS;
 use laws::SECURITIES;
 use plain::Position;
 
-// For each security, one bit a member.
-pub struct Words {
-    pub words: [u64; SECURITIES],
-}
-
-// The words after a close, and the place in the table up to which positions are late.
-pub struct Raised {
-    pub words: Words,
-    pub late: usize,
-}
-
 pub fn is_failing(word: u64, member: u8) -> bool
     ensures { λ r. ⌜ r ≡ bit word member ⌝ }
 {
@@ -43,12 +33,12 @@ pub fn is_failing(word: u64, member: u8) -> bool
 }
 
 // The word of a security.
-pub fn word_of(words: Words, security: u16) -> u64
-    requires { ⌜ (length (words .words) ≡ SECURITIES) × (Within 1 SECURITIES security) ⌝ }
-    ensures { λ r. ⌜ r ≡ nth 0 (words .words) security ⌝ }
+pub fn word_of(words: &[u64; SECURITIES], security: u16) -> u64
+    requires { ⌜ (length (now words) ≡ SECURITIES) × (Within 1 SECURITIES security) ⌝ }
+    ensures { λ r. ⌜ r ≡ nth 0 (now (words .entry)) security ⌝ }
 {
     let k = (security - 1) as usize;
-    words.words[k]
+    words[k]
 }
 
 fn count_place(security: u16, member: u8) -> usize
@@ -73,57 +63,61 @@ fn without_member(word: u64, member: u8) -> u64
 }
 
 // The member holds one late open short in the security more.
-fn with_late_short(words: Words, counts: &mut [u32; 2048], security: u16, member: u8) -> Words
-    requires { ⌜ (spec.HasCount (words .words) (now counts) security member) × (getD (now counts) (spec.countPlace security member) 0 ≤ POSITIONS) ⌝ }
-    ensures { λ r. ⌜ ((day next : ℕ) (ps qs : List plain.Position) → spec.Counted day ps (words .words) (now (counts .entry)) → spec.OneMore day ps next qs security member → spec.Counted next qs (r .words) (now (counts .exit))) ⌝ }
+fn with_late_short(
+    words: &mut [u64; SECURITIES],
+    counts: &mut [u32; 2048],
+    security: u16,
+    member: u8,
+)
+    requires { ⌜ (spec.HasCount (now words) (now counts) security member) × (getD (now counts) (spec.countPlace security member) 0 ≤ POSITIONS) ⌝ }
+    ensures { λ r. ⌜ ((day next : ℕ) (ps qs : List plain.Position) → spec.Counted day ps (now (words .entry)) (now (counts .entry)) → spec.OneMore day ps next qs security member → spec.Counted next qs (now (words .exit)) (now (counts .exit))) ⌝ }
 {
     let place = count_place(security, member);
     counts[place] = counts[place] + 1;
     let k = (security - 1) as usize;
-    let before = words.words[k];
-    let word = with_member(before, member);
-    let mut after = words;
-    after.words[k] = word;
-    after
+    let before = words[k];
+    words[k] = with_member(before, member);
 }
 
 // The member holds one late open short in the security less, and with the last of them ceases to be failing in it.
-fn without_late_short(words: Words, counts: &mut [u32; 2048], security: u16, member: u8) -> Words
-    requires { ⌜ (spec.HasCount (words .words) (now counts) security member) × (0 < getD (now counts) (spec.countPlace security member) 0) ⌝ }
-    ensures { λ r. ⌜ ((day : ℕ) (ps qs : List plain.Position) → spec.Counted day ps (words .words) (now (counts .entry)) → spec.OneMore day qs day ps security member → spec.Counted day qs (r .words) (now (counts .exit))) × (length (now (counts .exit)) ≡ 2048) ⌝ }
+fn without_late_short(
+    words: &mut [u64; SECURITIES],
+    counts: &mut [u32; 2048],
+    security: u16,
+    member: u8,
+)
+    requires { ⌜ (spec.HasCount (now words) (now counts) security member) × (0 < getD (now counts) (spec.countPlace security member) 0) ⌝ }
+    ensures { λ r. ⌜ ((day : ℕ) (ps qs : List plain.Position) → spec.Counted day ps (now (words .entry)) (now (counts .entry)) → spec.OneMore day qs day ps security member → spec.Counted day qs (now (words .exit)) (now (counts .exit))) × (length (now (counts .exit)) ≡ 2048) ⌝ }
 {
     let place = count_place(security, member);
     let left = counts[place] - 1;
     counts[place] = left;
     if 0 < left {
-        return words;
+        return;
     }
     let k = (security - 1) as usize;
-    let before = words.words[k];
-    let word = without_member(before, member);
-    let mut after = words;
-    after.words[k] = word;
-    after
+    let before = words[k];
+    words[k] = without_member(before, member);
 }
 
 // What a discharge of the short `p`, given as it was before, makes of the words.
 pub fn discharged(
-    words: Words,
+    words: &mut [u64; SECURITIES],
     counts: &mut [u32; 2048],
     p: Position,
     quantity: u32,
     day: BusinessDay,
-) -> Words
-    requires { ⌜ ((ps : List plain.Position) × (n : ℕ) × (spec.Counted (day .0) ps (words .words) (now counts)) × (spec.UnitsOf ps n p quantity)) × (Within 1 SECURITIES (p .security)) × (p .member ≤ MEMBERS) ⌝ }
-    ensures { λ r. ⌜ ((ps qs : List plain.Position) (n : ℕ) → spec.Counted (day .0) ps (words .words) (now (counts .entry)) → spec.UnitsOf ps n p quantity → spec.Lowered (day .0) ps qs n quantity → spec.Counted (day .0) qs (r .words) (now (counts .exit))) × (length (now (counts .exit)) ≡ 2048) ⌝ }
+)
+    requires { ⌜ ((ps : List plain.Position) × (n : ℕ) × (spec.Counted (day .0) ps (now words) (now counts)) × (spec.UnitsOf ps n p quantity)) × (Within 1 SECURITIES (p .security)) × (p .member ≤ MEMBERS) ⌝ }
+    ensures { λ r. ⌜ ((ps qs : List plain.Position) (n : ℕ) → spec.Counted (day .0) ps (now (words .entry)) (now (counts .entry)) → spec.UnitsOf ps n p quantity → spec.Lowered (day .0) ps qs n quantity → spec.Counted (day .0) qs (now (words .exit)) (now (counts .exit))) × (length (now (counts .exit)) ≡ 2048) ⌝ }
 {
     if quantity < p.unsettled {
-        return words;
+        return;
     }
     if day.0 <= p.settlement.0 {
-        return words;
+        return;
     }
-    without_late_short(words, counts, p.security, p.member)
+    without_late_short(words, counts, p.security, p.member);
 }
 
 fn is_open_short(p: Position) -> bool
@@ -136,30 +130,25 @@ fn is_open_short(p: Position) -> bool
 }
 
 // At the close of a day, the open shorts that are due on it become late. The table is in order of rising delivery days, so
-// they are those from the first that was not late on.
+// they are those from the first that was not late on. The answer is the first that is not late the day after.
 pub fn raise_late(
-    words: Words,
+    words: &mut [u64; SECURITIES],
     counts: &mut [u32; 2048],
     rows: &[u32; 12288],
     held: usize,
     from: usize,
     day: BusinessDay,
-) -> Raised
-    requires { ⌜ (spec.Numbered (positionTable (now rows) held)) × (Rising (tables.positions (positionTable (now rows) held))) × (spec.Counted (day .0) (tables.positions (positionTable (now rows) held)) (words .words) (now counts)) × (spec.LateBefore (day .0) (tables.positions (positionTable (now rows) held)) from) ⌝ }
-    ensures { λ r. ⌜ (spec.Counted (day .0 + 1) (tables.positions (positionTable (now (rows .entry)) held)) (r .words .words) (now (counts .exit))) × (spec.LateBefore (day .0 + 1) (tables.positions (positionTable (now (rows .entry)) held)) (r .late)) ⌝ }
+) -> usize
+    requires { ⌜ (spec.Numbered (positionTable (now rows) held)) × (Rising (tables.positions (positionTable (now rows) held))) × (spec.Counted (day .0) (tables.positions (positionTable (now rows) held)) (now words) (now counts)) × (spec.LateBefore (day .0) (tables.positions (positionTable (now rows) held)) from) ⌝ }
+    ensures { λ r. ⌜ (spec.Counted (day .0 + 1) (tables.positions (positionTable (now (rows .entry)) held)) (now (words .exit)) (now (counts .exit))) × (spec.LateBefore (day .0 + 1) (tables.positions (positionTable (now (rows .entry)) held)) r) ⌝ }
 {
-    let mut raised = words;
     let mut i = from;
     while i < held && rows::settlement_at(rows, i) <= day.0 {
         let p = rows::row_at(rows, i);
         if is_open_short(p) {
-            let next = with_late_short(raised, counts, p.security, p.member);
-            raised = next;
+            with_late_short(words, counts, p.security, p.member);
         }
         i += 1;
     }
-    Raised {
-        words: raised,
-        late: i,
-    }
+    i
 }

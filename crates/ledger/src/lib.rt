@@ -1,5 +1,5 @@
-// Posting charges on the accounts: each raises the payee's credits and the payer's debits. A function that owns a loop changes the
-// ledger's columns where they stand. The tables that charges go by are numbers that a caller lends.
+// Posting charges on the accounts: each raises the payee's credits and the payer's debits. The two columns of the ledger are lent, and
+// changed where they stand. The tables that charges go by are numbers that a caller lends, too.
 ghost use mathlib.Core.Path.{_≡_};
 ghost use mathlib.Core.Bool.{not, _&&_};
 ghost use mathlib.Core.List.{[], _∷_};
@@ -11,13 +11,13 @@ ghost use Rattle.rules.specs.Charges.{buyInCharge};
 ghost use Rattle.plain.specs.declared.Manner.the-variants.{Cash};
 ghost use Rattle.plain.specs.Charging.{raise, posted, charge};
 ghost use Rattle.plain.specs.Dealing.{due};
+ghost use Rattle.ledger.specs.Posts.{ledgerOf};
 ghost use Rattle.ledger.specs.Parts.{awardFinesOf, lateFinesOf, closeChargesOf};
 ghost use Rattle.ledger.specs.Tabled.{Chargeable, AwardsFinable, LateFinable, CloseFinable, Priceable, Priced};
 ghost use Rattle.tables.specs.Lent.{positionTable, awardTable, pieceTable};
 ghost use Rattle.ledger.specs.Settling.{highestLong, priceOf, paymentsAt, settlementOf, Settleable};
 use laws::ACCOUNTS;
 use laws::BusinessDay;
-use plain::Ledger;
 use plain::Position;
 use register::Register;
 use rules::Amount;
@@ -34,25 +34,36 @@ fn raise_place(column: &mut [u64; ACCOUNTS], account: u8, cents: u64)
     column[k] = column[k] + cents;
 }
 
-pub fn post(ledger: Ledger, payer: u8, payee: u8, cents: u64) -> Ledger
-    requires { ⌜ Chargeable ledger (record { payer = payer; payee = payee; cents = cents }) ⌝ }
-    ensures { λ r. ⌜ r ≡ posted ledger (record { payer = payer; payee = payee; cents = cents } ∷ []) ⌝ }
+pub fn post(
+    credits: &mut [u64; ACCOUNTS],
+    debits: &mut [u64; ACCOUNTS],
+    payer: u8,
+    payee: u8,
+    cents: u64,
+)
+    requires { ⌜ Chargeable (ledgerOf (now credits) (now debits)) (record { payer = payer; payee = payee; cents = cents }) ⌝ }
+    ensures { λ r. ⌜ ledgerOf (now (credits .exit)) (now (debits .exit)) ≡ posted (ledgerOf (now (credits .entry)) (now (debits .entry))) (record { payer = payer; payee = payee; cents = cents } ∷ []) ⌝ }
 {
-    let mut after = ledger;
-    raise_place(&mut after.credits, payee, cents);
-    raise_place(&mut after.debits, payer, cents);
-    after
+    raise_place(credits, payee, cents);
+    raise_place(debits, payer, cents);
 }
 
 // A charge to the house, or the credit that a negative one is.
-pub fn post_buy_in(ledger: Ledger, member: u8, quantity: u32, price: u32, reference: u32) -> Ledger
-    requires { ⌜ Chargeable ledger (charge member (buyInCharge quantity price reference)) ⌝ }
-    ensures { λ r. ⌜ r ≡ posted ledger (charge member (buyInCharge quantity price reference) ∷ []) ⌝ }
+pub fn post_buy_in(
+    credits: &mut [u64; ACCOUNTS],
+    debits: &mut [u64; ACCOUNTS],
+    member: u8,
+    quantity: u32,
+    price: u32,
+    reference: u32,
+)
+    requires { ⌜ Chargeable (ledgerOf (now credits) (now debits)) (charge member (buyInCharge quantity price reference)) ⌝ }
+    ensures { λ r. ⌜ ledgerOf (now (credits .exit)) (now (debits .exit)) ≡ posted (ledgerOf (now (credits .entry)) (now (debits .entry))) (charge member (buyInCharge quantity price reference) ∷ []) ⌝ }
 {
     let amount = rules::buy_in_charge(quantity, price, reference);
     match amount {
-        Amount::Debit(cents) => post(ledger, member, HOUSE, cents),
-        Amount::Credit(cents) => post(ledger, HOUSE, member, cents),
+        Amount::Debit(cents) => post(credits, debits, member, HOUSE, cents),
+        Amount::Credit(cents) => post(credits, debits, HOUSE, member, cents),
     }
 }
 
@@ -80,18 +91,18 @@ fn short_is_fined(position: Position, class: u8, latest: u32, day: BusinessDay) 
 }
 
 pub fn post_award_fines(
-    ledger: Ledger,
+    credits: &mut [u64; ACCOUNTS],
+    debits: &mut [u64; ACCOUNTS],
     awards: &[u32; 1280],
     awarded: usize,
     rows: &[u32; 12288],
     held: usize,
     prices: Prices,
     register: Register,
-) -> Ledger
-    requires { ⌜ AwardsFinable ledger (awardTable (now awards) awarded) (positionTable (now rows) held) prices register ⌝ }
-    ensures { λ r. ⌜ r ≡ posted ledger (awardFinesOf (awardTable (now (awards .entry)) awarded) (positionTable (now (rows .entry)) held) prices register) ⌝ }
+)
+    requires { ⌜ AwardsFinable (ledgerOf (now credits) (now debits)) (awardTable (now awards) awarded) (positionTable (now rows) held) prices register ⌝ }
+    ensures { λ r. ⌜ ledgerOf (now (credits .exit)) (now (debits .exit)) ≡ posted (ledgerOf (now (credits .entry)) (now (debits .entry))) (awardFinesOf (awardTable (now (awards .entry)) awarded) (positionTable (now (rows .entry)) held) prices register) ⌝ }
 {
-    let mut after = ledger;
     let mut i: usize = 0;
     while i < awarded {
         let award = rows::award_at(awards, i);
@@ -102,26 +113,25 @@ pub fn post_award_fines(
         if award_is_fined(award.confirmed, latest) {
             let class = register.classes[k];
             let fine = rules::award_fine(class, rules::value_of(award.quantity, latest));
-            raise_place(&mut after.credits, HOUSE, fine);
-            raise_place(&mut after.debits, award.offerer, fine);
+            raise_place(credits, HOUSE, fine);
+            raise_place(debits, award.offerer, fine);
         }
         i += 1;
     }
-    after
 }
 
 pub fn post_late_fines(
-    ledger: Ledger,
+    credits: &mut [u64; ACCOUNTS],
+    debits: &mut [u64; ACCOUNTS],
     rows: &[u32; 12288],
     held: usize,
     prices: Prices,
     register: Register,
     day: BusinessDay,
-) -> Ledger
-    requires { ⌜ LateFinable ledger (positionTable (now rows) held) prices register day ⌝ }
-    ensures { λ r. ⌜ r ≡ posted ledger (lateFinesOf (positionTable (now (rows .entry)) held) prices register day) ⌝ }
+)
+    requires { ⌜ LateFinable (ledgerOf (now credits) (now debits)) (positionTable (now rows) held) prices register day ⌝ }
+    ensures { λ r. ⌜ ledgerOf (now (credits .exit)) (now (debits .exit)) ≡ posted (ledgerOf (now (credits .entry)) (now (debits .entry))) (lateFinesOf (positionTable (now (rows .entry)) held) prices register day) ⌝ }
 {
-    let mut after = ledger;
     let mut i: usize = 0;
     while i < held {
         let short = rows::row_at(rows, i);
@@ -130,16 +140,16 @@ pub fn post_late_fines(
         let latest = prices.latest[k];
         if short_is_fined(short, class, latest, day) {
             let fine = rules::late_fine(rules::value_of(short.unsettled, latest));
-            raise_place(&mut after.credits, HOUSE, fine);
-            raise_place(&mut after.debits, short.member, fine);
+            raise_place(credits, HOUSE, fine);
+            raise_place(debits, short.member, fine);
         }
         i += 1;
     }
-    after
 }
 
 pub fn post_close(
-    ledger: Ledger,
+    credits: &mut [u64; ACCOUNTS],
+    debits: &mut [u64; ACCOUNTS],
     awards: &[u32; 1280],
     awarded: usize,
     rows: &[u32; 12288],
@@ -147,16 +157,23 @@ pub fn post_close(
     prices: Prices,
     register: Register,
     day: BusinessDay,
-) -> Ledger
-    requires { ⌜ CloseFinable ledger (awardTable (now awards) awarded) (positionTable (now rows) held) prices register day ⌝ }
-    ensures { λ r. ⌜ r ≡ posted ledger (closeChargesOf (awardTable (now (awards .entry)) awarded) (positionTable (now (rows .entry)) held) prices register day) ⌝ }
+)
+    requires { ⌜ CloseFinable (ledgerOf (now credits) (now debits)) (awardTable (now awards) awarded) (positionTable (now rows) held) prices register day ⌝ }
+    ensures { λ r. ⌜ ledgerOf (now (credits .exit)) (now (debits .exit)) ≡ posted (ledgerOf (now (credits .entry)) (now (debits .entry))) (closeChargesOf (awardTable (now (awards .entry)) awarded) (positionTable (now (rows .entry)) held) prices register day) ⌝ }
 {
-    let mut fined = ledger;
     if 0 < awarded {
-        let after = post_award_fines(ledger, awards, awarded, rows, held, prices, register);
-        fined = after;
+        post_award_fines(
+            credits,
+            debits,
+            awards,
+            awarded,
+            rows,
+            held,
+            prices,
+            register,
+        );
     }
-    post_late_fines(fined, rows, held, prices, register, day)
+    post_late_fines(credits, debits, rows, held, prices, register, day);
 }
 
 // The first pass of a cash settlement over its pieces: the highest reference price among their longs.
@@ -181,18 +198,18 @@ fn highest_reference(rows: &[u32; 12288], held: usize, sheet: &[u64; 4096], deal
 
 // The second pass: each piece gets its cents at the price of the settlement and is paid for, on the lent sheet.
 fn post_payments(
-    ledger: Ledger,
+    credits: &mut [u64; ACCOUNTS],
+    debits: &mut [u64; ACCOUNTS],
     rows: &[u32; 12288],
     held: usize,
     sheet: &mut [u64; 4096],
     dealt: usize,
     payer: u8,
     price: u64,
-) -> Ledger
-    requires { ⌜ (Settleable ledger (paymentsAt price (positionTable (now rows) held) (pieceTable Cash (now sheet) dealt)) (positionTable (now rows) held) (pieceTable Cash (now sheet) dealt) payer) × (length (now sheet) ≡ 4096) ⌝ }
-    ensures { λ r. ⌜ (Priced (pieceTable Cash (now (sheet .entry)) dealt) price (pieceTable Cash (now (sheet .exit)) dealt)) × (r ≡ posted ledger (paymentsAt price (positionTable (now (rows .entry)) held) (pieceTable Cash (now (sheet .entry)) dealt))) × (length (now (sheet .exit)) ≡ 4096) ⌝ }
+)
+    requires { ⌜ (Settleable (ledgerOf (now credits) (now debits)) (paymentsAt price (positionTable (now rows) held) (pieceTable Cash (now sheet) dealt)) (positionTable (now rows) held) (pieceTable Cash (now sheet) dealt) payer) × (length (now sheet) ≡ 4096) ⌝ }
+    ensures { λ r. ⌜ (Priced (pieceTable Cash (now (sheet .entry)) dealt) price (pieceTable Cash (now (sheet .exit)) dealt)) × (ledgerOf (now (credits .exit)) (now (debits .exit)) ≡ posted (ledgerOf (now (credits .entry)) (now (debits .entry))) (paymentsAt price (positionTable (now (rows .entry)) held) (pieceTable Cash (now (sheet .entry)) dealt))) × (length (now (sheet .exit)) ≡ 4096) ⌝ }
 {
-    let mut after = ledger;
     let mut i: usize = 0;
     while i < dealt {
         let number = pieces::long_at(sheet, i);
@@ -201,16 +218,16 @@ fn post_payments(
         let long = rows::row_at(rows, place);
         let cents = (units as u64) * price;
         pieces::put_cents(sheet, i, cents);
-        raise_place(&mut after.credits, long.member, cents);
-        raise_place(&mut after.debits, payer, cents);
+        raise_place(credits, long.member, cents);
+        raise_place(debits, payer, cents);
         i += 1;
     }
-    after
 }
 
 // The payments at the one price of the settlement, and the fee of the short, which is given as it was before the settlement.
 pub fn post_cash(
-    ledger: Ledger,
+    credits: &mut [u64; ACCOUNTS],
+    debits: &mut [u64; ACCOUNTS],
     rows: &[u32; 12288],
     held: usize,
     sheet: &mut [u64; 4096],
@@ -218,13 +235,22 @@ pub fn post_cash(
     short: Position,
     class: u8,
     latest: u32,
-) -> Ledger
-    requires { ⌜ (Settleable ledger (settlementOf class latest short (positionTable (now rows) held) (pieceTable Cash (now sheet) dealt)) (positionTable (now rows) held) (pieceTable Cash (now sheet) dealt) (short .member)) × (length (now sheet) ≡ 4096) ⌝ }
-    ensures { λ r. ⌜ (Priced (pieceTable Cash (now (sheet .entry)) dealt) (priceOf class latest short (positionTable (now (rows .entry)) held) (pieceTable Cash (now (sheet .entry)) dealt)) (pieceTable Cash (now (sheet .exit)) dealt)) × (r ≡ posted ledger (settlementOf class latest short (positionTable (now (rows .entry)) held) (pieceTable Cash (now (sheet .entry)) dealt))) × (length (now (sheet .exit)) ≡ 4096) ⌝ }
+)
+    requires { ⌜ (Settleable (ledgerOf (now credits) (now debits)) (settlementOf class latest short (positionTable (now rows) held) (pieceTable Cash (now sheet) dealt)) (positionTable (now rows) held) (pieceTable Cash (now sheet) dealt) (short .member)) × (length (now sheet) ≡ 4096) ⌝ }
+    ensures { λ r. ⌜ (Priced (pieceTable Cash (now (sheet .entry)) dealt) (priceOf class latest short (positionTable (now (rows .entry)) held) (pieceTable Cash (now (sheet .entry)) dealt)) (pieceTable Cash (now (sheet .exit)) dealt)) × (ledgerOf (now (credits .exit)) (now (debits .exit)) ≡ posted (ledgerOf (now (credits .entry)) (now (debits .entry))) (settlementOf class latest short (positionTable (now (rows .entry)) held) (pieceTable Cash (now (sheet .entry)) dealt))) × (length (now (sheet .exit)) ≡ 4096) ⌝ }
 {
     let long = highest_reference(rows, held, sheet, dealt);
     let price = rules::cash_price(class, short.reference, long, latest);
-    let paid = post_payments(ledger, rows, held, sheet, dealt, short.member, price);
+    post_payments(
+        credits,
+        debits,
+        rows,
+        held,
+        sheet,
+        dealt,
+        short.member,
+        price,
+    );
     let fee = rules::cash_fee(rules::value_of(short.unsettled, latest));
-    post(paid, short.member, HOUSE, fee)
+    post(credits, debits, short.member, HOUSE, fee);
 }

@@ -13,7 +13,7 @@ ghost use Rattle.plain.specs.Histories.{run, callsOf};
 ghost use Rattle.tables.specs.Tables.{positions};
 ghost use Rattle.tables.specs.Lent.{positionTable};
 ghost use Rattle.replay.specs.Replay.{NewlyHeld, OpensAs};
-ghost use Rattle.calls.specs.View.{numbers, bookOf, Held};
+ghost use Rattle.calls.specs.View.{Numbers, onRows, bookOf, Held};
 ghost use Rattle.report.specs.Digits.{digits};
 ghost use Rattle.page.specs.Columns.{LINE, Fits, line};
 ghost use Rattle.page.specs.Page.{columns, isinOf, kindLetter, pageLine, pageLines, Showable};
@@ -114,8 +114,8 @@ fn put_positions(page: &mut [u8], isins: &[u8; 384], rows: &[u32; 12288], count:
 
 // The page of a book: the bytes written, or refusal 31, before anything is written.
 fn show_positions(page: &mut [u8], core: Core, rows: &[u32; 12288]) -> u64
-    requires { ⌜ ((trades awards counts : List ℕ) × Held core (numbers (now rows) trades awards counts)) ⌝ }
-    ensures { λ r. ⌜ ((trades awards counts : List ℕ) → Shown (bookOf core (numbers (now (rows .entry)) trades awards counts)) (now (page .entry)) (now (page .exit)) r) ⌝ }
+    requires { ⌜ ((others : Numbers) × Held core (onRows others (now rows))) ⌝ }
+    ensures { λ r. ⌜ ((others : Numbers) → Shown (bookOf core (onRows others (now (rows .entry)))) (now (page .entry)) (now (page .exit)) r) ⌝ }
 {
     let count = calls::position_count(core);
     if page.len() < LINE * count {
@@ -135,6 +135,10 @@ fn show_played(page: &mut [u8], file: &[u8], core: Core) -> u64
     let mut trades = calls::blank_trades();
     let mut awards = calls::blank_awards();
     let mut counts = calls::no_counts();
+    let mut starts = calls::no_starts();
+    let mut words = calls::no_words();
+    let mut credits = calls::no_cents();
+    let mut debits = calls::no_cents();
     let mut sheet = pieces::blank_numbers();
     let count = events::events_in(file) as usize;
     let after = replay::play(
@@ -143,6 +147,10 @@ fn show_played(page: &mut [u8], file: &[u8], core: Core) -> u64
         &mut trades,
         &mut awards,
         &mut counts,
+        &mut starts,
+        &mut words,
+        &mut credits,
+        &mut debits,
         &mut sheet,
         file,
         count,

@@ -6,9 +6,12 @@ ghost use mathlib.Core.Path.{_≡_};
 ghost use mathlib.Core.List.{List};
 ghost use lib.ListN.{length};
 ghost use Rattle.events.specs.File.{eventsOf};
-ghost use Rattle.calls.specs.View.{numbers, Held};
+ghost use Rattle.ledger.specs.Posts.{ledgerOf};
+ghost use Rattle.calls.specs.View.{Numbers, numbers, onRows, onLedger, Held};
 ghost use Rattle.replay.specs.Replay.{PlayedUpTo, NewlyHeld};
 use calls::Core;
+use laws::ACCOUNTS;
+use laws::SECURITIES;
 use libc::STDERR_FILENO;
 use libc::STDIN_FILENO;
 use libc::STDOUT_FILENO;
@@ -44,10 +47,14 @@ fn print_events(
     trades: &mut [u32; 3584],
     awards: &mut [u32; 1280],
     counts: &mut [u32; 2048],
+    starts: &mut [usize; SECURITIES],
+    words: &mut [u64; SECURITIES],
+    credits: &mut [u64; ACCOUNTS],
+    debits: &mut [u64; ACCOUNTS],
     sheet: &mut [u64; 4096],
 ) -> Core
-    requires { ⌜ (Held core (numbers (now rows) (now trades) (now awards) (now counts))) × (length (now sheet) ≡ 4096) × (length (now page) ≡ 131072) ⌝ }
-    ensures { λ r. ⌜ (PlayedUpTo core (numbers (now (rows .entry)) (now (trades .entry)) (now (awards .entry)) (now (counts .entry))) (eventsOf (now (file .entry))) r (numbers (now (rows .exit)) (now (trades .exit)) (now (awards .exit)) (now (counts .exit)))) × (length (now (page .exit)) ≡ 131072) ⌝ }
+    requires { ⌜ (Held core (numbers (now rows) (now trades) (now awards) (now counts) (now starts) (now words) (ledgerOf (now credits) (now debits)))) × (length (now sheet) ≡ 4096) × (length (now page) ≡ 131072) ⌝ }
+    ensures { λ r. ⌜ (PlayedUpTo core (numbers (now (rows .entry)) (now (trades .entry)) (now (awards .entry)) (now (counts .entry)) (now (starts .entry)) (now (words .entry)) (ledgerOf (now (credits .entry)) (now (debits .entry)))) (eventsOf (now (file .entry))) r (numbers (now (rows .exit)) (now (trades .exit)) (now (awards .exit)) (now (counts .exit)) (now (starts .exit)) (now (words .exit)) (ledgerOf (now (credits .exit)) (now (debits .exit))))) × (length (now (page .exit)) ≡ 131072) ⌝ }
 {
     let count = events::events_in(file) as usize;
     let mut played = core;
@@ -61,6 +68,10 @@ fn print_events(
             trades,
             awards,
             counts,
+            starts,
+            words,
+            credits,
+            debits,
             sheet,
             i,
         );
@@ -72,10 +83,16 @@ fn print_events(
     played
 }
 
-fn print_end(page: &mut [u8], core: Core, rows: &[u32; 12288])
-    requires { ⌜ ((trades awards counts : List ℕ) × Held core (numbers (now rows) trades awards counts)) × (length (now page) ≡ 131072) ⌝ }
+fn print_end(
+    page: &mut [u8],
+    core: Core,
+    rows: &[u32; 12288],
+    credits: &[u64; ACCOUNTS],
+    debits: &[u64; ACCOUNTS],
+)
+    requires { ⌜ ((others : Numbers) × Held core (onLedger (onRows others (now rows)) (ledgerOf (now credits) (now debits)))) × (length (now page) ≡ 131072) ⌝ }
 {
-    let used = transcript::end_lines(page, core, rows);
+    let used = transcript::end_lines(page, core, rows, credits, debits);
     print_page(page, used);
 }
 
@@ -88,6 +105,10 @@ fn print_played(file: &[u8], core: Core)
     let mut trades = calls::blank_trades();
     let mut awards = calls::blank_awards();
     let mut counts = calls::no_counts();
+    let mut starts = calls::no_starts();
+    let mut words = calls::no_words();
+    let mut credits = calls::no_cents();
+    let mut debits = calls::no_cents();
     let mut sheet = pieces::blank_numbers();
     let after = print_events(
         &mut page,
@@ -97,9 +118,13 @@ fn print_played(file: &[u8], core: Core)
         &mut trades,
         &mut awards,
         &mut counts,
+        &mut starts,
+        &mut words,
+        &mut credits,
+        &mut debits,
         &mut sheet,
     );
-    print_end(&mut page, after, &rows);
+    print_end(&mut page, after, &rows, &credits, &debits);
 }
 
 fn print_transcript(input: &[u8]) {

@@ -1,6 +1,7 @@
 // The static library for tests: what the last event of the player's input answers and prints, its call made on a lent sheet of pieces, after
 // more closes than a file has room for; and the latest price of a security, which the player does not print. No desk calls it. The exported functions have no `requires`.
-ghost use Prim.Native.Nat.{_-_, min};
+ghost use mathlib.Core.List.{List};
+ghost use Prim.Native.Nat.{ℕ, _-_, min};
 ghost use mathlib.Core.Path.{_≡_};
 ghost use lib.ListN.{length};
 ghost use Rattle.laws.specs.Limits.{LAST-DAY, PLACES};
@@ -10,6 +11,7 @@ ghost use Rattle.plain.specs.Calls.{call};
 ghost use Rattle.plain.specs.Refusals as refusals;
 ghost use Rattle.plain.specs.Histories.{quantity};
 ghost use Rattle.kept.specs.View.{answer};
+ghost use Rattle.ledger.specs.Posts.{ledgerOf};
 ghost use Rattle.calls.specs.View.{numbers, bookOf, Held};
 ghost use Rattle.book.specs.View.{view, Valid};
 ghost use Rattle.sheet.specs.Lent.{ReturnedOn};
@@ -23,7 +25,9 @@ use book::Book;
 use calls::Core;
 use calls::PriceAnswer;
 use events::Event;
+use laws::ACCOUNTS;
 use laws::PLACES;
+use laws::SECURITIES;
 use plain::LatestPrice;
 use plain::Outcome;
 use plain::Piece;
@@ -75,15 +79,18 @@ fn closed(
     trades: &[u32; 3584],
     awards: &[u32; 1280],
     counts: &mut [u32; 2048],
+    words: &mut [u64; SECURITIES],
+    credits: &mut [u64; ACCOUNTS],
+    debits: &mut [u64; ACCOUNTS],
     closes: u32,
 ) -> Core
-    requires { ⌜ Held core (numbers (now rows) (now trades) (now awards) (now counts)) ⌝ }
-    ensures { λ r. ⌜ (Held r (numbers (now (rows .exit)) (now (trades .entry)) (now (awards .entry)) (now (counts .exit)))) × (bookOf r (numbers (now (rows .exit)) (now (trades .entry)) (now (awards .entry)) (now (counts .exit))) ≡ afterCloses (bookOf core (numbers (now (rows .entry)) (now (trades .entry)) (now (awards .entry)) (now (counts .entry)))) closes) ⌝ }
+    requires { ⌜ ((starts : List ℕ) × Held core (numbers (now rows) (now trades) (now awards) (now counts) starts (now words) (ledgerOf (now credits) (now debits)))) ⌝ }
+    ensures { λ r. ⌜ ((starts : List ℕ) → Held core (numbers (now (rows .entry)) (now (trades .entry)) (now (awards .entry)) (now (counts .entry)) starts (now (words .entry)) (ledgerOf (now (credits .entry)) (now (debits .entry)))) → (Held r (numbers (now (rows .exit)) (now (trades .entry)) (now (awards .entry)) (now (counts .exit)) starts (now (words .exit)) (ledgerOf (now (credits .exit)) (now (debits .exit))))) × (bookOf r (numbers (now (rows .exit)) (now (trades .entry)) (now (awards .entry)) (now (counts .exit)) starts (now (words .exit)) (ledgerOf (now (credits .exit)) (now (debits .exit)))) ≡ afterCloses (bookOf core (numbers (now (rows .entry)) (now (trades .entry)) (now (awards .entry)) (now (counts .entry)) starts (now (words .entry)) (ledgerOf (now (credits .entry)) (now (debits .entry))))) closes)) ⌝ }
 {
     let mut after = core;
     let mut left = closes_made(closes);
     while 0 < left {
-        let answered = calls::close(after, rows, trades, awards, counts);
+        let answered = calls::close(after, rows, trades, awards, counts, words, credits, debits);
         let next = answered.core;
         after = next;
         left -= 1;
@@ -119,8 +126,22 @@ fn before_last(core: Core, closes: u32, file: &[u8]) -> Book
     let mut trades = calls::blank_trades();
     let mut awards = calls::blank_awards();
     let mut counts = calls::no_counts();
+    let mut starts = calls::no_starts();
+    let mut words = calls::no_words();
+    let mut credits = calls::no_cents();
+    let mut debits = calls::no_cents();
     let mut sheet = pieces::blank_numbers();
-    let later = closed(core, &mut rows, &trades, &awards, &mut counts, closes);
+    let later = closed(
+        core,
+        &mut rows,
+        &trades,
+        &awards,
+        &mut counts,
+        &mut words,
+        &mut credits,
+        &mut debits,
+        closes,
+    );
     let stop = count_before_last(file);
     let after = replay::play(
         later,
@@ -128,11 +149,25 @@ fn before_last(core: Core, closes: u32, file: &[u8]) -> Book
         &mut trades,
         &mut awards,
         &mut counts,
+        &mut starts,
+        &mut words,
+        &mut credits,
+        &mut debits,
         &mut sheet,
         file,
         stop,
     );
-    book::made_of(after, rows, trades, awards, counts)
+    book::made_of(
+        after,
+        rows,
+        trades,
+        awards,
+        counts,
+        starts,
+        words,
+        credits,
+        debits,
+    )
 }
 
 // What an event answers on a sheet of so many places. A longer sheet than 1,024 places is not made: it answers as one of 1,024.

@@ -5,12 +5,15 @@ ghost use lib.ListN.{length, take};
 ghost use Rattle.events.specs.File.{eventsOf};
 ghost use Rattle.plain.specs.Book as plain;
 ghost use Rattle.plain.specs.Histories.{run, callsOf};
+ghost use Rattle.ledger.specs.Posts.{ledgerOf};
 ghost use Rattle.calls.specs.View.{Numbers, numbers, Held, Blank};
 ghost use Rattle.book.specs.View.{view, Valid};
 ghost use Rattle.history.specs.Runs.{standOf, RunsTo};
 ghost use Rattle.replay.specs.Replay.{ReadyFor, PlayedUpTo, NewlyHeld, OpensAs, ReplayedFrom};
 use book::Book;
 use calls::Core;
+use laws::ACCOUNTS;
+use laws::SECURITIES;
 
 // What is answered before any event is played: a refusal number, or 0, and the core of a new book.
 pub struct Checked {
@@ -48,18 +51,34 @@ pub fn play(
     trades: &mut [u32; 3584],
     awards: &mut [u32; 1280],
     counts: &mut [u32; 2048],
+    starts: &mut [usize; SECURITIES],
+    words: &mut [u64; SECURITIES],
+    credits: &mut [u64; ACCOUNTS],
+    debits: &mut [u64; ACCOUNTS],
     sheet: &mut [u64; 4096],
     file: &[u8],
     stop: usize,
 ) -> Core
-    requires { ⌜ (Held core (numbers (now rows) (now trades) (now awards) (now counts))) × (length (now sheet) ≡ 4096) × (stop ≤ length (eventsOf (now file))) ⌝ }
-    ensures { λ r. ⌜ (PlayedUpTo core (numbers (now (rows .entry)) (now (trades .entry)) (now (awards .entry)) (now (counts .entry))) (take stop (eventsOf (now (file .entry)))) r (numbers (now (rows .exit)) (now (trades .exit)) (now (awards .exit)) (now (counts .exit)))) × (length (now (sheet .exit)) ≡ 4096) ⌝ }
+    requires { ⌜ (Held core (numbers (now rows) (now trades) (now awards) (now counts) (now starts) (now words) (ledgerOf (now credits) (now debits)))) × (length (now sheet) ≡ 4096) × (stop ≤ length (eventsOf (now file))) ⌝ }
+    ensures { λ r. ⌜ (PlayedUpTo core (numbers (now (rows .entry)) (now (trades .entry)) (now (awards .entry)) (now (counts .entry)) (now (starts .entry)) (now (words .entry)) (ledgerOf (now (credits .entry)) (now (debits .entry)))) (take stop (eventsOf (now (file .entry)))) r (numbers (now (rows .exit)) (now (trades .exit)) (now (awards .exit)) (now (counts .exit)) (now (starts .exit)) (now (words .exit)) (ledgerOf (now (credits .exit)) (now (debits .exit))))) × (length (now (sheet .exit)) ≡ 4096) ⌝ }
 {
     let mut after = core;
     let mut i: usize = 0;
     while i < stop {
         let event = events::event_at(file, i);
-        let answered = calls::step(after, rows, trades, awards, counts, sheet, event);
+        let answered = calls::step(
+            after,
+            rows,
+            trades,
+            awards,
+            counts,
+            starts,
+            words,
+            credits,
+            debits,
+            sheet,
+            event,
+        );
         let next = answered.core;
         after = next;
         i += 1;
@@ -76,6 +95,10 @@ fn played(core: Core, file: &[u8]) -> Book
     let mut trades = calls::blank_trades();
     let mut awards = calls::blank_awards();
     let mut counts = calls::no_counts();
+    let mut starts = calls::no_starts();
+    let mut words = calls::no_words();
+    let mut credits = calls::no_cents();
+    let mut debits = calls::no_cents();
     let mut sheet = pieces::blank_numbers();
     let count = events::events_in(file) as usize;
     let after = play(
@@ -84,11 +107,25 @@ fn played(core: Core, file: &[u8]) -> Book
         &mut trades,
         &mut awards,
         &mut counts,
+        &mut starts,
+        &mut words,
+        &mut credits,
+        &mut debits,
         &mut sheet,
         file,
         count,
     );
-    book::made_of(after, rows, trades, awards, counts)
+    book::made_of(
+        after,
+        rows,
+        trades,
+        awards,
+        counts,
+        starts,
+        words,
+        credits,
+        debits,
+    )
 }
 
 // The file is played on a book that is opened on the register. Nothing is played where either is refused.

@@ -15,7 +15,6 @@ ghost use Rattle.report.specs.Lines.{LINE, accountLine, accountLines, am
 ghost use Rattle.report.specs.Pages.{Put, Wrote};
 use laws::ACCOUNTS;
 use laws::PLACES;
-use plain::Ledger;
 use plain::Manner;
 use plain::Piece;
 use plain::Position;
@@ -280,8 +279,8 @@ fn balance_line(page: &mut [u8], account: u8, credit: u64, debit: u64) -> usize
 }
 
 // The lines of the accounts that are not zero, by rising number. The page has at least 80 bytes for each of 64.
-pub fn account_lines(page: &mut [u8], ledger: Ledger) -> usize
-    ensures { λ r. ⌜ Wrote (LINE * ACCOUNTS) (accountLines ledger) (now (page .entry)) (now (page .exit)) r ⌝ }
+pub fn account_lines(page: &mut [u8], credits: &[u64; ACCOUNTS], debits: &[u64; ACCOUNTS]) -> usize
+    ensures { λ r. ⌜ Wrote (LINE * ACCOUNTS) (accountLines (record { credits = now (credits .entry); debits = now (debits .entry) })) (now (page .entry)) (now (page .exit)) r ⌝ }
 {
     if page.len() < LINE * ACCOUNTS {
         return 0;
@@ -289,8 +288,8 @@ pub fn account_lines(page: &mut [u8], ledger: Ledger) -> usize
     let mut at: usize = 0;
     let mut k: usize = 0;
     while k < ACCOUNTS {
-        let credit = ledger.credits[k];
-        let debit = ledger.debits[k];
+        let credit = credits[k];
+        let debit = debits[k];
         at += balance_line(&mut page[at..], k as u8, credit, debit);
         k += 1;
     }

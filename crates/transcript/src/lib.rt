@@ -8,7 +8,8 @@ ghost use Rattle.plain.specs.declared.Manner.{Manner};
 ghost use Rattle.plain.specs.declared.Outcome.the-variants as outcome;
 ghost use Rattle.pieces.specs.Sheet.{piecesOf};
 ghost use Rattle.kept.specs.View.{numberOf, quantityOf};
-ghost use Rattle.calls.specs.View.{numbers, bookOf, Held};
+ghost use Rattle.ledger.specs.Posts.{ledgerOf};
+ghost use Rattle.calls.specs.View.{Numbers, numbers, onRows, onLedger, bookOf, Held};
 ghost use Rattle.report.specs.Lines.{LINE, eventLines};
 ghost use Rattle.report.specs.Pages.{Wrote};
 ghost use Rattle.transcript.specs.Transcript.{registerLength, endText};
@@ -16,6 +17,8 @@ ghost use Rattle.transcript.specs.Playing.{StartedOn, BLOCK, END, Played
 use calls::Answered;
 use calls::Core;
 use events::Event;
+use laws::ACCOUNTS;
+use laws::SECURITIES;
 use plain::Outcome;
 
 // What the input answers before its first event: a refusal number, or 0; where its file begins; and the core of its register's new book.
@@ -119,11 +122,15 @@ pub fn play_events(
     trades: &mut [u32; 3584],
     awards: &mut [u32; 1280],
     counts: &mut [u32; 2048],
+    starts: &mut [usize; SECURITIES],
+    words: &mut [u64; SECURITIES],
+    credits: &mut [u64; ACCOUNTS],
+    debits: &mut [u64; ACCOUNTS],
     sheet: &mut [u64; 4096],
     from: usize,
 ) -> Played
-    requires { ⌜ (Held core (numbers (now rows) (now trades) (now awards) (now counts))) × (length (now sheet) ≡ 4096) ⌝ }
-    ensures { λ r. ⌜ (PlayedOn (now (file .entry)) core (numbers (now (rows .entry)) (now (trades .entry)) (now (awards .entry)) (now (counts .entry))) from (now (page .entry)) (now (page .exit)) (numbers (now (rows .exit)) (now (trades .exit)) (now (awards .exit)) (now (counts .exit))) r) × (length (now (sheet .exit)) ≡ 4096) ⌝ }
+    requires { ⌜ (Held core (numbers (now rows) (now trades) (now awards) (now counts) (now starts) (now words) (ledgerOf (now credits) (now debits)))) × (length (now sheet) ≡ 4096) ⌝ }
+    ensures { λ r. ⌜ (PlayedOn (now (file .entry)) core (numbers (now (rows .entry)) (now (trades .entry)) (now (awards .entry)) (now (counts .entry)) (now (starts .entry)) (now (words .entry)) (ledgerOf (now (credits .entry)) (now (debits .entry)))) from (now (page .entry)) (now (page .exit)) (numbers (now (rows .exit)) (now (trades .exit)) (now (awards .exit)) (now (counts .exit)) (now (starts .exit)) (now (words .exit)) (ledgerOf (now (credits .exit)) (now (debits .exit)))) r) × (length (now (sheet .exit)) ≡ 4096) ⌝ }
 {
     let count = events::events_in(file) as usize;
     let room = page.len();
@@ -135,14 +142,61 @@ pub fn play_events(
         match event {
             Event::Trade(t) => last = calls::trade(last.core, trades, t),
             Event::Price(p) => last = calls::price(last.core, p),
-            Event::Delivery(d) => last = calls::delivery(last.core, rows, awards, counts, sheet, d),
+            Event::Delivery(d) => last = calls::delivery(
+                last.core,
+                rows,
+                awards,
+                counts,
+                starts,
+                words,
+                sheet,
+                d,
+            ),
             Event::Attempt(a) => last = calls::attempt(last.core, rows, a),
-            Event::Offer(o) => last = calls::offer(last.core, rows, o),
+            Event::Offer(o) => last = calls::offer(last.core, rows, words, o),
             Event::Award(a) => last = calls::award(last.core, rows, awards, a),
-            Event::Confirm(c) => last = calls::confirm(last.core, rows, awards, counts, sheet, c),
-            Event::Cash(c) => last = calls::cash(last.core, rows, counts, sheet, c),
-            Event::Close => last = calls::close(last.core, rows, trades, awards, counts),
-            Event::PairOff(x) => last = calls::pair_off(last.core, rows, awards, counts, sheet, x),
+            Event::Confirm(c) => last = calls::confirm(
+                last.core,
+                rows,
+                awards,
+                counts,
+                starts,
+                words,
+                credits,
+                debits,
+                sheet,
+                c,
+            ),
+            Event::Cash(c) => last = calls::cash(
+                last.core,
+                rows,
+                counts,
+                starts,
+                words,
+                credits,
+                debits,
+                sheet,
+                c,
+            ),
+            Event::Close => last = calls::close(
+                last.core,
+                rows,
+                trades,
+                awards,
+                counts,
+                words,
+                credits,
+                debits,
+            ),
+            Event::PairOff(x) => last = calls::pair_off(
+                last.core,
+                rows,
+                awards,
+                counts,
+                words,
+                sheet,
+                x,
+            ),
         }
         let outcome = last.outcome;
         next += 1;
@@ -153,15 +207,20 @@ pub fn play_events(
 }
 
 // The lines of the positions and accounts.
-pub fn end_lines(page: &mut [u8], core: Core, rows: &[u32; 12288]) -> usize
-    requires { ⌜ ((trades awards counts : List ℕ) × Held core (numbers (now rows) trades awards counts)) ⌝ }
-    ensures { λ r. ⌜ ((trades awards counts : List ℕ) → Wrote END (endText (bookOf core (numbers (now (rows .entry)) trades awards counts))) (now (page .entry)) (now (page .exit)) r) ⌝ }
+pub fn end_lines(
+    page: &mut [u8],
+    core: Core,
+    rows: &[u32; 12288],
+    credits: &[u64; ACCOUNTS],
+    debits: &[u64; ACCOUNTS],
+) -> usize
+    requires { ⌜ ((others : Numbers) × Held core (onLedger (onRows others (now rows)) (ledgerOf (now credits) (now debits)))) ⌝ }
+    ensures { λ r. ⌜ ((others : Numbers) → Wrote END (endText (bookOf core (onLedger (onRows others (now (rows .entry))) (ledgerOf (now (credits .entry)) (now (debits .entry)))))) (now (page .entry)) (now (page .exit)) r) ⌝ }
 {
     if page.len() < END {
         return 0;
     }
     let count = calls::position_count(core);
     let used = report::position_lines(page, rows, count);
-    let ledger = calls::accounts(core);
-    used + report::account_lines(&mut page[used..], ledger)
+    used + report::account_lines(&mut page[used..], credits, debits)
 }

@@ -25,8 +25,8 @@ blank-numbers-requires c κs = search needs
 
 step-requires : tie.Need-step-requires
 step-requires c κs =
-    let k = c .before .before .before .before .before in
-    (k .before .before .before .before .before .before .before .pre .held, k .blank-numbers .ensures .1)
+    let k = c .before .before .before .before .before .before .before .before .before in
+    (k .before .before .before .before .before .before .before .before .before .before .before .pre .held, k .blank-numbers .ensures .1)
 
 manner-of-requires : tie.Need-manner-of-requires
 manner-of-requires c κs = search needs
@@ -37,7 +37,7 @@ handed-out-requires c κs = search needs
 returns-2 : tie.Need-returns-2
 returns-2 c =
     let k = c .before .before .before in
-    let j = k .before .before .before .before .before .before .before .before .before .before .before in
+    let j = k .before .before .before .before .before .before .before .before .before .before .before .before .before .before .before .before .before .before .before in
     let s = j .before .before in
     rw (c .handed-out .ensures, c .before .before .manner-of .ensures)
     (stepped _ _ _

@@ -15,17 +15,17 @@ returns-2 c =
 
 without-late-short-requires : tie.Need-without-late-short-requires
 without-late-short-requires c κs =
-    let e = c .before .before .before .before in
+    let e = c .before .before .before .before .before in
     let pre = e .before .before .pre in
     let h = pre .0 .2 in
     let u = pre .0 .3 in (
       record { securities = h .securities; places = h .places; within = pre .1; below = pre .2 },
-      rw (h .counted _ _ (pre .1) (pre .2)) (counts-one _ _ _ _ _ u (omega (arith, u .enough, e .if1 .left)) (omega (arith, c .before .if2 .left))),
+      rw (h .counted _ _ (pre .1) (pre .2)) (counts-one _ _ _ _ _ u (omega (arith, u .enough, e .if1 .left)) (omega (arith, c .before .before .if2 .left))),
     )
 
 returns-3 : tie.Need-returns-3
 returns-3 c =
-    let x = c .before .before in
+    let x = c .before .before .before in
     let e = x .before .before .before in (
       λ ps qs n h u low. c .without-late-short .ensures .0 _ ps qs h (one-less _ ps n _ _ u qs low (omega (arith, u .enough, e .if1 .left)) (omega (arith, x .if2 .left))),
       c .without-late-short .ensures .1,

@@ -23,13 +23,13 @@ use Rattle.failing.proofs.raise_late.Statement.{statement}
 use Rattle.failing.proofs.raise_late.Tie as tie
 
 abbrev Inv-loop : tie.InvT-loop
-Inv-loop counts₀ rows held from day raised₀ i₀ counts raised i =
-    Counted (day .0 + 1) (take i (positions (positionTable rows held))) (raised .words) counts
+Inv-loop words₀ counts₀ rows held from day i₀ words counts i =
+    Counted (day .0 + 1) (take i (positions (positionTable rows held))) words counts
     × (i ≤ held)
     × ((j : ℕ) → j < i → getD (positions (positionTable rows held)) j noPosition .settlement .0 < day .0 + 1)
 
 abbrev μ-loop : tie.MeasureT-loop
-μ-loop counts₀ rows held from day raised₀ i₀ counts raised i = held - i
+μ-loop words₀ counts₀ rows held from day i₀ words counts i = held - i
 
 -- the positions of the table
 abbrev table : tie.Start Inv-loop μ-loop → List Position
@@ -84,7 +84,7 @@ is-open-short-requires c κs = search needs
 
 with-late-short-requires : tie.Need-with-late-short-requires Inv-loop μ-loop
 with-late-short-requires c κs =
-    let r = c .before .before .before in
+    let r = c .before .before .before .before in
     let x = r .before .before .before .before .before in
     let h = x .loop .inv .0 in
     let s = rw (← row-is r) at (all-at (λ (p : Position). Within 1 32 (p .security)) (table (start r)) (place r) noPosition (inside r) (start r .pre .0 .securities)) in
@@ -113,13 +113,13 @@ loop-again c =
     let x = r .before .before .before .before .before in
     let answer = c .before .is-open-short .ensures in
     ⊎-elim
-    (λ w. (rw (w .3, w .4) (w .2 .ensures _ _ _ _ (x .loop .inv .0) (one-more _ _ _ _ (inside r) (row-is r) (row-late r) (sym answer ∙ w .0 .taken))), omega (arith, r .before .before .before .before .loop-test .taken), late-on r))
+    (λ w. (rw (w .4, w .5) (w .3 .ensures _ _ _ _ (x .loop .inv .0) (one-more _ _ _ _ (inside r) (row-is r) (row-late r) (sym answer ∙ w .0 .taken))), omega (arith, r .before .before .before .before .loop-test .taken), late-on r))
     (λ w. (rw (w .1, w .2) (none-more _ _ _ _ (inside r) (row-is r) (row-late r) (sym answer ∙ w .0 .left) _ _ (x .loop .inv .0)), omega (arith, r .before .before .before .before .loop-test .taken), late-on r))
     (c .if2 .came)
 
 -- what the walk leaves, where it stops
 stopped : (c : tie.At-loop Inv-loop μ-loop) → (c .loop .i < length (table (c .before)) → c .before .args .day .0 + 1 ≤ getD (table (c .before)) (c .loop .i) noPosition .settlement .0)
-    → Counted (c .before .args .day .0 + 1) (table (c .before)) (c .loop .raised .words) (c .loop .counts) × LateBefore (c .before .args .day .0 + 1) (table (c .before)) (c .loop .i)
+    → Counted (c .before .args .day .0 + 1) (table (c .before)) (c .loop .words) (c .loop .counts) × LateBefore (c .before .args .day .0 + 1) (table (c .before)) (c .loop .i)
 stopped c here =
     let b = late-before-end (c .before .args .day .0 + 1) (table (c .before)) (c .loop .i) (c .before .pre .1) (omega (arith, long (c .before), c .loop .inv .1)) (c .loop .inv .2) here in
     (counted-whole _ _ _ _ _ _ b (omega arith) (c .loop .inv .0), b)

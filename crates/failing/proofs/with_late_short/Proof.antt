@@ -40,11 +40,11 @@ element-copy-out-before c = search needs
 with-member-requires : tie.Need-with-member-requires
 with-member-requires c κs = search needs
 
-mul-after : tie.Need-mul-after
-mul-after c = search needs
+mul-words : tie.Need-mul-words
+mul-words c = search needs
 
-element-write-after : tie.Need-element-write-after
-element-write-after c = search needs
+element-write-words : tie.Need-element-write-words
+element-write-words c = search needs
 
 returns : tie.Need-returns
 returns c =
@@ -67,6 +67,6 @@ with-late-short-spec =
     mul-before
     element-copy-out-before
     with-member-requires
-    mul-after
-    element-write-after
+    mul-words
+    element-write-words
     returns)

@@ -48,11 +48,11 @@ element-copy-out-before c = search needs
 without-member-requires : tie.Need-without-member-requires
 without-member-requires c κs = search needs
 
-mul-after : tie.Need-mul-after
-mul-after c = search needs
+mul-words : tie.Need-mul-words
+mul-words c = search needs
 
-element-write-after : tie.Need-element-write-after
-element-write-after c = search needs
+element-write-words : tie.Need-element-write-words
+element-write-words c = search needs
 
 returns-2 : tie.Need-returns-2
 returns-2 c =
@@ -78,6 +78,6 @@ without-late-short-spec =
     mul-before
     element-copy-out-before
     without-member-requires
-    mul-after
-    element-write-after
+    mul-words
+    element-write-words
     returns-2)

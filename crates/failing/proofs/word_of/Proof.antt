@@ -19,7 +19,7 @@ element-copy-out-result : tie.Need-element-copy-out-result
 element-copy-out-result c = search needs
 
 returns : tie.Need-returns
-returns c = sym (nth-at {A = ℕ} 0 (c .before .args .t1 .words) _ (c .before .pre .1 .above))
+returns c = sym (nth-at {A = ℕ} 0 (c .before .args .words .now) _ (c .before .pre .1 .above))
 
 pub word-of-spec : {M : Type 1} → statement M
 word-of-spec = tie.close (tie.spec sub-k cast-k mul-result element-copy-out-result returns)

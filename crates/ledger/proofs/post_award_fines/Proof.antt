@@ -15,6 +15,7 @@ use Rattle.tables.specs.Tables.{Positions, positions, awards}
 use Rattle.tables.specs.declared.Prices.{Prices}
 use Rattle.rows.specs.Rows.{awardsOf}
 use Rattle.tables.specs.Lent.{positionTable}
+use Rattle.ledger.specs.Posts.{ledgerOf}
 use Rattle.ledger.specs.Parts.{bookOf, awardFinesOf}
 use Rattle.ledger.specs.Tabled.{Accounted, Awarded}
 use Rattle.ledger.proofs.Posting.{Posting, PostingAt, ahead, credit-fits, debit-fits, posting-start, posting-one, place-none, place-some, place-end}
@@ -27,11 +28,11 @@ abbrev finesOf : Positions → Prices → Register → Award → List Charge
 finesOf p prices register = awardFines (bookOf register 0 (tables.prices prices) (positions p))
 
 abbrev Inv-loop : tie.InvT-loop
-Inv-loop awards awarded rows held prices register after₀ i₀ after i =
-    PostingAt (finesOf (positionTable rows held) prices register) awarded (awardsOf awards) after₀ i after × (i ≤ awarded)
+Inv-loop credits₀ debits₀ awards awarded rows held prices register i₀ credits debits i =
+    PostingAt (finesOf (positionTable rows held) prices register) awarded (awardsOf awards) (ledgerOf credits₀ debits₀) i (ledgerOf credits debits) × (i ≤ awarded)
 
 abbrev μ-loop : tie.MeasureT-loop
-μ-loop awards awarded rows held prices register after₀ i₀ after i = awarded - i
+μ-loop credits₀ debits₀ awards awarded rows held prices register i₀ credits debits i = awarded - i
 
 abbrev table : tie.Start Inv-loop μ-loop → Positions
 table s = positionTable (s .args .rows .now) (s .args .held)
@@ -52,11 +53,11 @@ accounted p =
     let s = r .before .before .before in
     rw (p .row-at .ensures) (position-numbered (table s) (s .pre .positions-fit) Accounted _ (awarded-at r .position) (s .pre .accounted))
 
-class-of : (p : tie.After-row-at Inv-loop μ-loop) → let a = p .before .before .before .before .before .args in let s = p .row-at .result .security in getD (a .t7 .classes) (s - 1) 0 ≡ nth 0 (a .t7 .classes) s
-class-of p = class-read (p .before .before .before .before .before .args .t7 .classes) _ (accounted p .security .above)
+class-of : (p : tie.After-row-at Inv-loop μ-loop) → let a = p .before .before .before .before .before .args in let s = p .row-at .result .security in getD (a .t8 .classes) (s - 1) 0 ≡ nth 0 (a .t8 .classes) s
+class-of p = class-read (p .before .before .before .before .before .args .t8 .classes) _ (accounted p .security .above)
 
-latest-of : (p : tie.After-row-at Inv-loop μ-loop) → let a = p .before .before .before .before .before .args in let s = p .row-at .result .security in getD (a .t6 .latest) (s - 1) 0 ≡ nth noPrice (tables.prices (a .t6)) s .price
-latest-of p = latest-read (p .before .before .before .before .before .args .t6) _ (p .before .before .before .before .before .pre .prices-many) (accounted p .security)
+latest-of : (p : tie.After-row-at Inv-loop μ-loop) → let a = p .before .before .before .before .before .args in let s = p .row-at .result .security in getD (a .t7 .latest) (s - 1) 0 ≡ nth noPrice (tables.prices (a .t7)) s .price
+latest-of p = latest-read (p .before .before .before .before .before .args .t7) _ (p .before .before .before .before .before .pre .prices-many) (accounted p .security)
 
 -- the award is fined: its charge is the next to be posted
 posting : (x : tie.After-award-fine Inv-loop μ-loop)
@@ -64,10 +65,10 @@ posting : (x : tie.After-award-fine Inv-loop μ-loop)
     let r = p .before .before in
     let y = r .before in
     let s = y .before .before in
-    let f = finesOf (table s) (s .args .t6) (s .args .t7) in
-    Posting (s .args .ledger) (ahead f (s .args .awarded) (awardsOf (s .args .awards .now)) 0)
+    let f = finesOf (table s) (s .args .t7) (s .args .t8) in
+    Posting (ledgerOf (s .args .credits .now) (s .args .debits .now)) (ahead f (s .args .awarded) (awardsOf (s .args .awards .now)) 0)
     (record { payer = r .award-at .result .offerer; payee = 0; cents = x .award-fine .result } ∷ ahead f (s .args .awarded) (awardsOf (s .args .awards .now)) (y .before .loop .i + 1))
-    (y .before .loop .after)
+    (ledgerOf (y .before .loop .credits) (y .before .loop .debits))
 unfolding new
 posting x =
     let p = x .before .before .before .before .before .before .before in
@@ -143,12 +144,12 @@ loop-again c =
     let s = y .before .before in
     ⊎-elim
     (λ w. (
-      rw (w .8, w .5 .ensures, w .7 .ensures)
+      rw (w .8, w .9, w .5 .ensures, w .7 .ensures)
           (posting-one _ _ _ _ _ (posting (record { before = record { before = record { before = record { before = c .before; if1 = w .0 }; class = w .1 }; value-of = w .2 }; award-fine = w .3 }))),
       omega arith,
     ))
     (λ w. (
-      rw (w .1) (place-none _ _ _ (long s) _ _ _ noAward (y .loop-test .taken) (rw (← r .award-at .ensures) (award-free _ (r .award-at .result) (p .row-at .result) _ _ (position-at (table s) _ (awarded-at r .position) ∙ sym (p .row-at .ensures)) (latest-of p) (c .before .award-is-fined .ensures) (w .0 .left))) (y .before .loop .inv .0)),
+      rw (w .1, w .2) (place-none _ _ _ (long s) _ _ _ noAward (y .loop-test .taken) (rw (← r .award-at .ensures) (award-free _ (r .award-at .result) (p .row-at .result) _ _ (position-at (table s) _ (awarded-at r .position) ∙ sym (p .row-at .ensures)) (latest-of p) (c .before .award-is-fined .ensures) (w .0 .left))) (y .before .loop .inv .0)),
       omega arith,
     ))
     (c .if1 .came)

@@ -23,19 +23,19 @@ credit : (c : tie.After-known-told2)
 credit c = charge-credit _ _ _ _ (c .before .before .before .buy-in-charge .ensures) (c .before .amount2 .given .1)
 
 post-requires : tie.Need-post-requires
-post-requires c κs = rw (debit c) at (c .before .before .before .before .pre)
+post-requires c κs = rw (debit (c .before .before)) at (c .before .before .before .before .before .before .pre)
 
 enum-known-amount-2 : tie.Need-enum-known-amount-2
 enum-known-amount-2 c = search needs
 
 post-requires-2 : tie.Need-post-requires-2
-post-requires-2 c κs = rw (credit c) at (c .before .before .before .before .pre)
+post-requires-2 c κs = rw (credit (c .before .before)) at (c .before .before .before .before .before .before .pre)
 
 returns : tie.Need-returns
-returns c = rw (debit (c .before)) (c .post .ensures)
+returns c = rw (debit (c .before .before .before)) (c .post .ensures)
 
 returns-2 : tie.Need-returns-2
-returns-2 c = rw (credit (c .before)) (c .post2 .ensures)
+returns-2 c = rw (credit (c .before .before .before)) (c .post2 .ensures)
 
 pub post-buy-in-spec : {M : Type 1} → statement M
 post-buy-in-spec =

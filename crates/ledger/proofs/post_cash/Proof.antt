@@ -19,7 +19,7 @@ price-is x =
     rw (x .before .highest-reference .ensures) at (x .cash-price .ensures)
     ∙ sym (by-highest-long _ _ _ _)
 
-fee-is : (x : tie.After-cash-fee) → let a = x .before .before .before .before .before .before .before .args in x .cash-fee .result ≡ cashFee (a .short .unsettled * a .latest)
+fee-is : (x : tie.After-cash-fee) → let a = x .before .before .before .before .before .before .before .before .before .args in x .cash-fee .result ≡ cashFee (a .short .unsettled * a .latest)
 fee-is x = rw (← x .before .value-of .ensures) (x .cash-fee .ensures)
 
 highest-reference-requires : tie.Need-highest-reference-requires
@@ -30,7 +30,7 @@ cash-price-requires c κs = search needs
 
 post-payments-requires : tie.Need-post-payments-requires
 post-payments-requires c κs =
-    let x = c .before in
+    let x = c .before .before .before in
     let h = x .before .before .before .pre in
     (record { room = rw (price-is x) (room-first _ _ _ (h .0 .room)); priceable = h .0 .priceable; accounted = h .0 .accounted; owed = h .0 .owed; account = h .0 .account }, h .1)
 
@@ -42,19 +42,20 @@ cash-fee-requires c κs = search needs
 
 post-requires : tie.Need-post-requires
 post-requires c κs =
-    let p = c .before .before in
-    let x = p .before .before in
+    let f = c .before .before in
+    let p = f .before .before in
+    let x = p .before .before .before .before in
     let h = x .before .before .before .pre .0 in
     record {
       booked = record { payer = h .account; payee = omega arith };
-      room = rw (p .post-payments .ensures .1, price-is x, fee-is c) (room-then _ _ _ (h .room));
+      room = rw (p .post-payments .ensures .1, price-is x, fee-is f) (room-then _ _ _ (h .room));
     }
 
 returns : tie.Need-returns
 returns c =
-    let f = c .before in
+    let f = c .before .before .before in
     let p = f .before .before in
-    let x = p .before .before in
+    let x = p .before .before .before .before in
     let g = p .post-payments .ensures in
     (rw (price-is x) at (g .0), (rw (g .1, price-is x, fee-is f) at (c .post .ensures)) ∙ posted-append _ _ _, g .2)
 

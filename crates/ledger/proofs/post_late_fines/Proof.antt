@@ -16,6 +16,7 @@ use Rattle.tables.specs.Tables.{Positions, positions}
 use Rattle.tables.specs.declared.Prices.{Prices}
 use Rattle.rows.specs.Rows.{rowsOf}
 use Rattle.tables.specs.Lent.{positionTable}
+use Rattle.ledger.specs.Posts.{ledgerOf}
 use Rattle.ledger.specs.Parts.{bookOf, lateFinesOf}
 use Rattle.ledger.specs.Tabled.{Accounted}
 use Rattle.ledger.proofs.Posting.{Posting, PostingAt, ahead, credit-fits, debit-fits, posting-start, posting-one, place-none, place-some, place-end}
@@ -28,11 +29,11 @@ abbrev finesOf : BusinessDay → Positions → Prices → Register → Position 
 finesOf day p prices register = lateFines (bookOf register (day .0) (tables.prices prices) (positions p))
 
 abbrev Inv-loop : tie.InvT-loop
-Inv-loop rows held day prices register after₀ i₀ after i =
-    PostingAt (finesOf day (positionTable rows held) prices register) held (rowsOf rows) after₀ i after × (i ≤ held)
+Inv-loop credits₀ debits₀ rows held day prices register i₀ credits debits i =
+    PostingAt (finesOf day (positionTable rows held) prices register) held (rowsOf rows) (ledgerOf credits₀ debits₀) i (ledgerOf credits debits) × (i ≤ held)
 
 abbrev μ-loop : tie.MeasureT-loop
-μ-loop rows held day prices register after₀ i₀ after i = held - i
+μ-loop credits₀ debits₀ rows held day prices register i₀ credits debits i = held - i
 
 fits : (c : tie.Start Inv-loop μ-loop) → c .args .held ≤ length (rowsOf (c .args .rows .now))
 fits c = positions-long (positionTable (c .args .rows .now) (c .args .held)) (c .pre .positions-fit)
@@ -43,21 +44,21 @@ accounted r =
     let s = y .before .before in
     rw (r .row-at .ensures) (position-has (positionTable (s .args .rows .now) (s .args .held)) (s .pre .positions-fit) Accounted _ (y .loop-test .taken) (s .pre .accounted))
 
-class-of : (r : tie.After-row-at Inv-loop μ-loop) → let a = r .before .before .before .args in let s = r .row-at .result .security in getD (a .t5 .classes) (s - 1) 0 ≡ nth 0 (a .t5 .classes) s
-class-of r = class-read (r .before .before .before .args .t5 .classes) _ (accounted r .security .above)
+class-of : (r : tie.After-row-at Inv-loop μ-loop) → let a = r .before .before .before .args in let s = r .row-at .result .security in getD (a .t6 .classes) (s - 1) 0 ≡ nth 0 (a .t6 .classes) s
+class-of r = class-read (r .before .before .before .args .t6 .classes) _ (accounted r .security .above)
 
-latest-of : (r : tie.After-row-at Inv-loop μ-loop) → let a = r .before .before .before .args in let s = r .row-at .result .security in getD (a .t4 .latest) (s - 1) 0 ≡ nth noPrice (tables.prices (a .t4)) s .price
-latest-of r = latest-read (r .before .before .before .args .t4) _ (r .before .before .before .pre .prices-many) (accounted r .security)
+latest-of : (r : tie.After-row-at Inv-loop μ-loop) → let a = r .before .before .before .args in let s = r .row-at .result .security in getD (a .t5 .latest) (s - 1) 0 ≡ nth noPrice (tables.prices (a .t5)) s .price
+latest-of r = latest-read (r .before .before .before .args .t5) _ (r .before .before .before .pre .prices-many) (accounted r .security)
 
 -- the short is fined: its charge is the next to be posted
 posting : (x : tie.After-late-fine Inv-loop μ-loop)
     → let r = x .before .before .before .before .before .before .before in
     let y = r .before in
     let a = y .before .before .args in
-    let f = finesOf (a .day) (positionTable (a .rows .now) (a .held)) (a .t4) (a .t5) in
-    Posting (a .ledger) (ahead f (a .held) (rowsOf (a .rows .now)) 0)
+    let f = finesOf (a .day) (positionTable (a .rows .now) (a .held)) (a .t5) (a .t6) in
+    Posting (ledgerOf (a .credits .now) (a .debits .now)) (ahead f (a .held) (rowsOf (a .rows .now)) 0)
     (record { payer = r .row-at .result .member; payee = 0; cents = x .late-fine .result } ∷ ahead f (a .held) (rowsOf (a .rows .now)) (y .before .loop .i + 1))
-    (y .before .loop .after)
+    (ledgerOf (y .before .loop .credits) (y .before .loop .debits))
 unfolding new
 posting x =
     let r = x .before .before .before .before .before .before .before in
@@ -118,12 +119,12 @@ loop-again c =
     let y = r .before in
     ⊎-elim
     (λ w. (
-      rw (w .7, w .4 .ensures, w .6 .ensures)
+      rw (w .7, w .8, w .4 .ensures, w .6 .ensures)
           (posting-one _ _ _ _ _ (posting (record { before = record { before = record { before = c .before; if1 = w .0 }; value-of = w .1 }; late-fine = w .2 }))),
       omega arith,
     ))
     (λ w. (
-      rw (w .1) (place-none _ _ _ (fits (y .before .before)) _ _ _ noPosition (y .loop-test .taken) (rw (← r .row-at .ensures) (late-free _ (r .row-at .result) _ _ _ (class-of r) (latest-of r) (c .before .short-is-fined .ensures) (w .0 .left))) (y .before .loop .inv .0)),
+      rw (w .1, w .2) (place-none _ _ _ (fits (y .before .before)) _ _ _ noPosition (y .loop-test .taken) (rw (← r .row-at .ensures) (late-free _ (r .row-at .result) _ _ _ (class-of r) (latest-of r) (c .before .short-is-fined .ensures) (w .0 .left))) (y .before .loop .inv .0)),
       omega arith,
     ))
     (c .if1 .came)

@@ -16,18 +16,19 @@ use Rattle.plain.specs.Charging.{pricedAt}
 use Rattle.ledger.specs.Tabled.{Accounted, Paired}
 use Rattle.ledger.proofs.Posting.{Posting, PostingAt, ahead, credit-fits, debit-fits, posting-start, posting-one, place-some, place-end}
 use Rattle.ledger.proofs.Elements.{element, position-numbered}
+use Rattle.ledger.specs.Posts.{ledgerOf}
 use Rattle.ledger.specs.Settling.{paymentAt, paymentsAt, OwedBy}
 use Rattle.ledger.proofs.Settling.{Changing, changing-start, changing-at, changing-one, changing-end, noPiece, priced-here, payment-here}
 use Rattle.ledger.proofs.post_payments.Statement.{statement}
 use Rattle.ledger.proofs.post_payments.Tie as tie
 
 abbrev Inv-loop : tie.InvT-loop
-Inv-loop rows held sheet₀ dealt payer price after₀ i₀ sheet after i =
+Inv-loop credits₀ debits₀ rows held sheet₀ dealt payer price i₀ credits debits sheet i =
     (Changing (pricedAt price) dealt (piecesOf Cash sheet₀) i (piecesOf Cash sheet))
-    × (PostingAt (paymentAt price (positionTable rows held)) dealt (piecesOf Cash sheet₀) after₀ i after) × (i ≤ dealt) × (length sheet ≡ 4096)
+    × (PostingAt (paymentAt price (positionTable rows held)) dealt (piecesOf Cash sheet₀) (ledgerOf credits₀ debits₀) i (ledgerOf credits debits)) × (i ≤ dealt) × (length sheet ≡ 4096)
 
 abbrev μ-loop : tie.MeasureT-loop
-μ-loop rows held sheet₀ dealt payer price after₀ i₀ sheet after i = dealt - i
+μ-loop credits₀ debits₀ rows held sheet₀ dealt payer price i₀ credits debits sheet i = dealt - i
 
 abbrev start : tie.In-loop Inv-loop μ-loop → tie.Start Inv-loop μ-loop
 start y = y .before .before
@@ -67,9 +68,9 @@ posting : (r : tie.After-row-at Inv-loop μ-loop)
     → let y = turn r in
     let a = start y .args in
     let f = paymentAt (a .price) (positionTable (a .rows .now) (a .held)) in
-    Posting (a .ledger) (ahead f (a .dealt) (piecesOf Cash (a .sheet .now)) 0)
+    Posting (ledgerOf (a .credits .now) (a .debits .now)) (ahead f (a .dealt) (piecesOf Cash (a .sheet .now)) 0)
     (record { payer = a .payer; payee = r .row-at .result .member; cents = r .before .units-at .result * a .price } ∷ ahead f (a .dealt) (piecesOf Cash (a .sheet .now)) (y .before .loop .i + 1))
-    (y .before .loop .after)
+    (ledgerOf (y .before .loop .credits) (y .before .loop .debits))
 posting r =
     let y = turn r in
     place-some _ _ _ (long (start y)) _ _ _ noPiece _ (y .loop-test .taken)

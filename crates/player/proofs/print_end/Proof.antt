@@ -12,7 +12,7 @@ print-page-requires : tie.Need-print-page-requires
 print-page-requires c κs =
     let w = c .before .before .before in
     let s = w .before .before .before in
-    wrote-within _ _ _ _ _ (omega (arith, s .pre .1)) (w .end-lines .ensures (s .pre .0 .0) (s .pre .0 .1) (s .pre .0 .2))
+    wrote-within _ _ _ _ _ (omega (arith, s .pre .1)) (w .end-lines .ensures (s .pre .0 .0))
 
 same-length : tie.Need-same-length
 same-length c = search needs

@@ -1,4 +1,6 @@
 -- `player::print_played` meets its contract.
+use Rattle.ledger.specs.Posts.{ledgerOf}
+use Rattle.calls.specs.View.{numbers}
 use borrow.Author.Needs.{needs}
 use Rattle.player.proofs.print_played.Statement.{statement}
 use Rattle.player.proofs.print_played.Tie as tie
@@ -18,6 +20,18 @@ blank-awards-requires c κs = search needs
 no-counts-requires : tie.Need-no-counts-requires
 no-counts-requires c κs = search needs
 
+no-starts-requires : tie.Need-no-starts-requires
+no-starts-requires c κs = search needs
+
+no-words-requires : tie.Need-no-words-requires
+no-words-requires c κs = search needs
+
+no-cents-requires : tie.Need-no-cents-requires
+no-cents-requires c κs = search needs
+
+no-cents-requires-2 : tie.Need-no-cents-requires-2
+no-cents-requires-2 c κs = search needs
+
 blank-numbers-requires : tie.Need-blank-numbers-requires
 blank-numbers-requires c κs = search needs
 
@@ -26,14 +40,18 @@ slice-aggregate-print-events c = search needs
 
 print-events-requires : tie.Need-print-events-requires
 print-events-requires c κs =
-    let n = c .before .before .before .before .before .before in
-    let k = n .before in
+    let n = c .before .before .before .before .before .before .before .before .before .before in
+    let d = n .before in
+    let e = d .before in
+    let w = e .before in
+    let o = w .before in
+    let k = o .before in
     let a = k .before in
     let t = a .before in
     let r = t .before in
     let g = r .before in
     let s = g .before .before in (
-      s .pre _ (record { rows = r .blank-rows .ensures .1; trades = t .blank-trades .ensures .1; awards = a .blank-awards .ensures .1; counts = k .no-counts .ensures }),
+      s .pre _ (record { rows = r .blank-rows .ensures .1; trades = t .blank-trades .ensures .1; awards = a .blank-awards .ensures .1; counts = k .no-counts .ensures; starts = o .no-starts .ensures; words = w .no-words .ensures; ledger = (e .no-cents .ensures, d .no-cents2 .ensures) }),
       n .blank-numbers .ensures .1,
       g .blank-page .ensures,
     )
@@ -42,7 +60,10 @@ slice-aggregate-print-end : tie.Need-slice-aggregate-print-end
 slice-aggregate-print-end c = search needs
 
 print-end-requires : tie.Need-print-end-requires
-print-end-requires c κs = search needs
+print-end-requires c κs =
+    let p = c .before .before .before .before .before in
+    let x = p .print-events .last in
+    ((numbers (x .1 .1 .1 .0) (x .1 .1 .1 .1 .0) (x .1 .1 .1 .1 .1 .0) (x .1 .1 .1 .1 .1 .1 .0) (x .1 .1 .1 .1 .1 .1 .1 .0) (x .1 .1 .1 .1 .1 .1 .1 .1 .0) (ledgerOf (x .1 .1 .1 .1 .1 .1 .1 .1 .1 .0) (x .1 .1 .1 .1 .1 .1 .1 .1 .1 .1 .0)), p .print-events .ensures .0 .held), p .print-events .ensures .1)
 
 returns : tie.Need-returns
 returns c = search needs
@@ -56,6 +77,10 @@ print-played-spec =
     blank-trades-requires
     blank-awards-requires
     no-counts-requires
+    no-starts-requires
+    no-words-requires
+    no-cents-requires
+    no-cents-requires-2
     blank-numbers-requires
     slice-aggregate-print-events
     print-events-requires

@@ -6,6 +6,7 @@ use lib.ListN.{length, take}
 use borrow.Author.Needs.{needs}
 use Rattle.events.specs.declared.Event.the-variants as event
 use Rattle.events.specs.File.{eventsOf}
+use Rattle.ledger.specs.Posts.{ledgerOf}
 use Rattle.calls.specs.View.{numbers}
 use Rattle.replay.specs.Replay.{PlayedUpTo}
 use Rattle.replay.proofs.Playing.{none-played, more-played}
@@ -13,13 +14,13 @@ use Rattle.replay.proofs.play.Statement.{statement}
 use Rattle.replay.proofs.play.Tie as tie
 
 abbrev Inv-loop : tie.InvT-loop
-Inv-loop rows₀ trades₀ awards₀ counts₀ sheet₀ file stop after₀ i₀ rows trades awards counts sheet after i =
-    (PlayedUpTo after₀ (numbers rows₀ trades₀ awards₀ counts₀) (take i (eventsOf file)) after (numbers rows trades awards counts))
+Inv-loop rows₀ trades₀ awards₀ counts₀ starts₀ words₀ credits₀ debits₀ sheet₀ file stop after₀ i₀ rows trades awards counts starts words credits debits sheet after i =
+    (PlayedUpTo after₀ (numbers rows₀ trades₀ awards₀ counts₀ starts₀ words₀ (ledgerOf credits₀ debits₀)) (take i (eventsOf file)) after (numbers rows trades awards counts starts words (ledgerOf credits debits)))
     × (length sheet ≡ 4096)
     × (i ≤ stop)
 
 abbrev μ-loop : tie.MeasureT-loop
-μ-loop rows₀ trades₀ awards₀ counts₀ sheet₀ file stop after₀ i₀ rows trades awards counts sheet after i = stop - i
+μ-loop rows₀ trades₀ awards₀ counts₀ starts₀ words₀ credits₀ debits₀ sheet₀ file stop after₀ i₀ rows trades awards counts starts words credits debits sheet after i = stop - i
 
 loop-holds : tie.Need-loop-holds Inv-loop μ-loop
 loop-holds c = (none-played _ _ (c .before .pre .0), c .before .pre .1, omega arith)
@@ -29,21 +30,21 @@ event-at-requires c κs = search needs
 
 step-requires : tie.Need-step-requires Inv-loop μ-loop
 step-requires c κs =
-    let k = c .before .before .before .before .before .before .before in
+    let k = c .before .before .before .before .before .before .before .before .before .before .before in
     (k .loop .inv .0 .held, k .loop .inv .1)
 
 add-i : tie.Need-add-i Inv-loop μ-loop
 add-i c =
-    let t = c .before .before .before .before .before .before .before .before in
+    let t = c .before .before .before .before .before .before .before .before .before .before .before .before in
     omega (arith, t .loop-test .taken, t .before .before .before .fits .stop)
 
 loop-less : tie.Need-loop-less Inv-loop μ-loop
-loop-less c = omega (arith, c .before .before .before .before .before .before .before .before .loop-test .taken)
+loop-less c = omega (arith, c .before .before .before .before .before .before .before .before .before .before .before .before .loop-test .taken)
 
 loop-again : tie.Need-loop-again Inv-loop μ-loop
 loop-again c =
     let d = c .before in
-    let e = d .before .before .before .before .before .before in
+    let e = d .before .before .before .before .before .before .before .before .before .before in
     let k = e .before .before in
     let s = k .before .before in
     let events = eventsOf (s .args .file .now) in

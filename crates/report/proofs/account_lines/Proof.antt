@@ -10,10 +10,10 @@ use Rattle.report.proofs.account_lines.Statement.{statement}
 use Rattle.report.proofs.account_lines.Tie as tie
 
 abbrev Inv-loop : tie.InvT-loop
-Inv-loop page₀ ledger at₀ k₀ page at k = Lined (accountText ledger) accounts 64 page₀ page at k
+Inv-loop page₀ credits debits at₀ k₀ page at k = Lined (accountText (record { credits = credits; debits = debits })) accounts 64 page₀ page at k
 
 abbrev μ-loop : tie.MeasureT-loop
-μ-loop page₀ ledger at₀ k₀ page at k = 64 - k
+μ-loop page₀ credits debits at₀ k₀ page at k = 64 - k
 
 mul-if1 : tie.Need-mul-if1 Inv-loop μ-loop
 mul-if1 c = omega arith
@@ -21,7 +21,7 @@ mul-if1 c = omega arith
 returns : tie.Need-returns Inv-loop μ-loop
 returns c =
     let a = c .before .before .args in
-    none-wrote (LINE * 64) (accountLines (a .t2)) (a .page .now) (c .if1 .taken)
+    none-wrote (LINE * 64) (accountLines (record { credits = a .credits .now; debits = a .debits .now })) (a .page .now) (c .if1 .taken)
 
 loop-holds : tie.Need-loop-holds Inv-loop μ-loop
 loop-holds c = none-lined _ _ _ _
@@ -77,7 +77,7 @@ loop-again c =
     let d = c .before .before .balance-line in
     let i : k .k < length accounts = omega (arith, account-count, n .loop-test .taken) in
     lined-next _ _ _ _ (e .if1 .left) _ _ _ (k .inv) 0 _ _ (n .loop-test .taken) i
-    (wrote-text LINE _ (accountText (a .t2) (getD accounts (k .k) 0)) _ (d .last .0) (d .result) (account-here (a .t2) (k .k) (n .loop-test .taken)) (d .ensures))
+    (wrote-text LINE _ (accountText (record { credits = a .credits .now; debits = a .debits .now }) (getD accounts (k .k) 0)) _ (d .last .0) (d .result) (account-here (record { credits = a .credits .now; debits = a .debits .now }) (k .k) (n .loop-test .taken)) (d .ensures))
 
 same-length : tie.Need-same-length Inv-loop μ-loop
 same-length c = lined-length _ _ _ _ (c .before .before .if1 .left) _ _ _ (c .before .loop .inv)
@@ -87,7 +87,7 @@ returns-2 c =
     let k = c .before .loop in
     let e = c .before .before in
     let a = e .before .before .args in
-    all-lined _ _ _ _ (e .if1 .left) _ _ _ (k .inv) (accountLines (a .t2)) (accounts-all (a .t2) (k .k) (c .loop-test .left))
+    all-lined _ _ _ _ (e .if1 .left) _ _ _ (k .inv) (accountLines (record { credits = a .credits .now; debits = a .debits .now })) (accounts-all (record { credits = a .credits .now; debits = a .debits .now }) (k .k) (c .loop-test .left))
 
 pub account-lines-spec : {M : Type 1} → statement M
 account-lines-spec =

@@ -10,6 +10,7 @@ use borrow.Author.Tests.{leb-true, leb-false}
 use Rattle.plain.specs.declared.Manner.the-variants.{Delivered}
 use Rattle.calls.specs.declared.Answered.{Answered}
 use Rattle.calls.specs.declared.Core.{Core}
+use Rattle.ledger.specs.Posts.{ledgerOf}
 use Rattle.calls.specs.View.{Numbers, numbers, Held}
 use Rattle.calls.specs.Stepping.{Stepped}
 use Rattle.calls.proofs.Stepping.{stepped-bare, stepped-on}
@@ -21,19 +22,19 @@ use Rattle.transcript.proofs.play_events.Statement.{statement}
 use Rattle.transcript.proofs.play_events.Tie as tie
 
 abbrev Inv-loop : tie.InvT-loop
-Inv-loop page₀ file rows₀ trades₀ awards₀ counts₀ sheet₀ from count room last₀ next₀ used₀ page rows trades awards counts sheet last next used =
-    (Reached file (last₀ .core) (numbers rows₀ trades₀ awards₀ counts₀) from next page₀ page (last .core) (numbers rows trades awards counts) used)
+Inv-loop page₀ file rows₀ trades₀ awards₀ counts₀ starts₀ words₀ credits₀ debits₀ sheet₀ from count room last₀ next₀ used₀ page rows trades awards counts starts words credits debits sheet last next used =
+    (Reached file (last₀ .core) (numbers rows₀ trades₀ awards₀ counts₀ starts₀ words₀ (ledgerOf credits₀ debits₀)) from next page₀ page (last .core) (numbers rows trades awards counts starts words (ledgerOf credits debits)) used)
     × (length sheet ≡ 4096)
 
 abbrev μ-loop : tie.MeasureT-loop
-μ-loop page₀ file rows₀ trades₀ awards₀ counts₀ sheet₀ from count room last₀ next₀ used₀ page rows trades awards counts sheet last next used = count - next
+μ-loop page₀ file rows₀ trades₀ awards₀ counts₀ starts₀ words₀ credits₀ debits₀ sheet₀ from count room last₀ next₀ used₀ page rows trades awards counts starts words credits debits sheet last next used = count - next
 
 -- where a turn begins
 abbrev turn : tie.After-event-at Inv-loop μ-loop → tie.At-loop Inv-loop μ-loop
 turn e = e .before .before .before
 
 abbrev tables : tie.At-loop Inv-loop μ-loop → Numbers
-tables k = numbers (k .loop .rows) (k .loop .trades) (k .loop .awards) (k .loop .counts)
+tables k = numbers (k .loop .rows) (k .loop .trades) (k .loop .awards) (k .loop .counts) (k .loop .starts) (k .loop .words) (ledgerOf (k .loop .credits) (k .loop .debits))
 
 held : (e : tie.After-event-at Inv-loop μ-loop) → Held (turn e .loop .last .core) (tables (turn e))
 held e = turn e .loop .inv .0 .played' .held
@@ -87,83 +88,75 @@ enum-known-event-3 : tie.Need-enum-known-event-3 Inv-loop μ-loop
 enum-known-event-3 c = search needs
 
 delivery-requires : tie.Need-delivery-requires Inv-loop μ-loop
-delivery-requires c κs =
-    let e = c .before .before .before .before .before .before .before in
-    ((_, held e), long e)
+delivery-requires c κs = let e = c .before .before .before .before .before .before .before .before .before in ((_, _, held e), long e)
 
 enum-known-event-4 : tie.Need-enum-known-event-4 Inv-loop μ-loop
 enum-known-event-4 c = search needs
 
 attempt-requires : tie.Need-attempt-requires Inv-loop μ-loop
-attempt-requires c κs = (_, _, _, held (c .before .before .before .before))
+attempt-requires c κs = let e = c .before .before .before .before in (tables (turn e), held e)
 
 enum-known-event-5 : tie.Need-enum-known-event-5 Inv-loop μ-loop
 enum-known-event-5 c = search needs
 
 offer-requires : tie.Need-offer-requires Inv-loop μ-loop
-offer-requires c κs = (_, _, _, held (c .before .before .before .before))
+offer-requires c κs = let e = c .before .before .before .before .before in (tables (turn e), held e)
 
 enum-known-event-6 : tie.Need-enum-known-event-6 Inv-loop μ-loop
 enum-known-event-6 c = search needs
 
 award-requires : tie.Need-award-requires Inv-loop μ-loop
-award-requires c κs = (_, _, held (c .before .before .before .before .before))
+award-requires c κs = let e = c .before .before .before .before .before in (tables (turn e), held e)
 
 enum-known-event-7 : tie.Need-enum-known-event-7 Inv-loop μ-loop
 enum-known-event-7 c = search needs
 
 confirm-requires : tie.Need-confirm-requires Inv-loop μ-loop
-confirm-requires c κs =
-    let e = c .before .before .before .before .before .before .before in
-    ((_, held e), long e)
+confirm-requires c κs = let e = c .before .before .before .before .before .before .before .before .before .before .before in ((_, held e), long e)
 
 enum-known-event-8 : tie.Need-enum-known-event-8 Inv-loop μ-loop
 enum-known-event-8 c = search needs
 
 cash-requires : tie.Need-cash-requires Inv-loop μ-loop
-cash-requires c κs =
-    let e = c .before .before .before .before .before .before in
-    ((_, _, held e), long e)
+cash-requires c κs = let e = c .before .before .before .before .before .before .before .before .before .before in ((_, _, held e), long e)
 
 enum-told : tie.Need-enum-told Inv-loop μ-loop
 enum-told c = search needs
 
 close-requires : tie.Need-close-requires Inv-loop μ-loop
-close-requires c κs = held (c .before .before .before .before .before .before)
+close-requires c κs = (_, held (c .before .before .before .before .before .before .before .before .before))
 
 enum-known-event-9 : tie.Need-enum-known-event-9 Inv-loop μ-loop
 enum-known-event-9 c = search needs
 
 pair-off-requires : tie.Need-pair-off-requires Inv-loop μ-loop
-pair-off-requires c κs =
-    let e = c .before .before .before .before .before .before .before in
-    ((_, held e), long e)
+pair-off-requires c κs = let e = c .before .before .before .before .before .before .before .before in ((_, _, _, held e), long e)
 
 -- each arm makes the call of its kind: what they come to where they meet
 stepped : (c : tie.At-match-came Inv-loop μ-loop)
-    → Stepped (turn (c .before) .loop .last .core) (tables (turn (c .before))) (c .before .event-at .result) (turn (c .before) .loop .sheet) (c .match .last .core) (numbers (c .match .rows) (c .match .trades) (c .match .awards) (c .match .counts)) (c .match .sheet) (c .match .last .outcome) (c .match .last .pieces)
+    → Stepped (turn (c .before) .loop .last .core) (tables (turn (c .before))) (c .before .event-at .result) (turn (c .before) .loop .sheet) (c .match .last .core) (numbers (c .match .rows) (c .match .trades) (c .match .awards) (c .match .counts) (c .match .starts) (c .match .words) (ledgerOf (c .match .credits) (c .match .debits))) (c .match .sheet) (c .match .last .outcome) (c .match .last .pieces)
 stepped c =
     let h = held (c .before) in
     let l = long (c .before) in
     ⊎-elim
-    (λ w. rw (w .5, w .6, w .7, w .8, w .9, w .10) (stepped-bare _ _ _ _ _ _ _ _ _ (w .1 .given .1) refl l (w .4 .ensures _ _ _ h)))
+    (λ w. rw (w .5, w .6, w .7, w .8, w .9, w .10, w .11, w .12, w .13, w .14) (stepped-bare _ _ _ _ _ _ _ _ _ (w .1 .given .1) refl l (w .4 .ensures (tables (turn (c .before))) h)))
     (⊎-elim
-    (λ w. rw (w .4, w .5, w .6, w .7, w .8, w .9) (stepped-bare _ _ _ _ _ _ _ _ _ (w .1 .given .1) refl l (w .3 .ensures _ h)))
+    (λ w. rw (w .4, w .5, w .6, w .7, w .8, w .9, w .10, w .11, w .12, w .13) (stepped-bare _ _ _ _ _ _ _ _ _ (w .1 .given .1) refl l (w .3 .ensures _ h)))
     (⊎-elim
-    (λ w. rw (w .8, w .9, w .10, w .11, w .12, w .13) (stepped-on _ _ _ _ _ _ _ _ _ (w .1 .given .1) _ (w .7 .ensures _ h)))
+    (λ w. rw (w .10, w .11, w .12, w .13, w .14, w .15, w .16, w .17, w .18, w .19) (stepped-on _ _ _ _ _ _ _ _ _ (w .1 .given .1) _ (w .9 .ensures _ _ h)))
     (⊎-elim
-    (λ w. rw (w .5, w .6, w .7, w .8, w .9, w .10) (stepped-bare _ _ _ _ _ _ _ _ _ (w .1 .given .1) refl l (w .4 .ensures _ _ _ h)))
+    (λ w. rw (w .5, w .6, w .7, w .8, w .9, w .10, w .11, w .12, w .13, w .14) (stepped-bare _ _ _ _ _ _ _ _ _ (w .1 .given .1) refl l (w .4 .ensures (tables (turn (c .before))) h)))
     (⊎-elim
-    (λ w. rw (w .5, w .6, w .7, w .8, w .9, w .10) (stepped-bare _ _ _ _ _ _ _ _ _ (w .1 .given .1) refl l (w .4 .ensures _ _ _ h)))
+    (λ w. rw (w .6, w .7, w .8, w .9, w .10, w .11, w .12, w .13, w .14, w .15) (stepped-bare _ _ _ _ _ _ _ _ _ (w .1 .given .1) refl l (w .5 .ensures (tables (turn (c .before))) h)))
     (⊎-elim
-    (λ w. rw (w .6, w .7, w .8, w .9, w .10, w .11) (stepped-bare _ _ _ _ _ _ _ _ _ (w .1 .given .1) refl l (w .5 .ensures _ _ h)))
+    (λ w. rw (w .6, w .7, w .8, w .9, w .10, w .11, w .12, w .13, w .14, w .15) (stepped-bare _ _ _ _ _ _ _ _ _ (w .1 .given .1) refl l (w .5 .ensures (tables (turn (c .before))) h)))
     (⊎-elim
-    (λ w. rw (w .8, w .9, w .10, w .11, w .12, w .13) (stepped-on _ _ _ _ _ _ _ _ _ (w .1 .given .1) _ (w .7 .ensures _ h)))
+    (λ w. rw (w .12, w .13, w .14, w .15, w .16, w .17, w .18, w .19, w .20, w .21) (stepped-on _ _ _ _ _ _ _ _ _ (w .1 .given .1) _ (w .11 .ensures _ h)))
     (⊎-elim
-    (λ w. rw (w .7, w .8, w .9, w .10, w .11, w .12) (stepped-on _ _ _ _ _ _ _ _ _ (w .1 .given .1) _ (w .6 .ensures _ _ h)))
+    (λ w. rw (w .11, w .12, w .13, w .14, w .15, w .16, w .17, w .18, w .19, w .20) (stepped-on _ _ _ _ _ _ _ _ _ (w .1 .given .1) _ (w .10 .ensures _ _ h)))
     (⊎-elim
-    (λ w. rw (w .7, w .8, w .9, w .10, w .11, w .12) (stepped-bare _ _ _ _ _ _ _ _ _ (w .1 .given .1) refl l (w .6 .ensures)))
-    (λ w. rw (w .8, w .9, w .10, w .11, w .12, w .13) (stepped-on _ _ _ _ _ _ _ _ _ (w .1 .given .1) _ (w .7 .ensures _ h)))))))))))
+    (λ w. rw (w .10, w .11, w .12, w .13, w .14, w .15, w .16, w .17, w .18, w .19) (stepped-bare _ _ _ _ _ _ _ _ _ (w .1 .given .1) refl l (w .9 .ensures _ h)))
+    (λ w. rw (w .9, w .10, w .11, w .12, w .13, w .14, w .15, w .16, w .17, w .18) (stepped-on _ _ _ _ _ _ _ _ _ (w .1 .given .1) _ (w .8 .ensures _ _ _ h)))))))))))
     (c .match .came)
 
 add-next : tie.Need-add-next Inv-loop μ-loop
@@ -200,7 +193,7 @@ loop-again c =
     let t = e .before in
     let k = turn e in
     let d = stepped m in (
-      one-reached _ _ _ _ (k .loop .next) _ _ _ _ (m .match .last .core) _ (numbers (m .match .rows) (m .match .trades) (m .match .awards) (m .match .counts)) (e .event-at .result) _ (k .loop .used) _ (k .loop .inv .0)
+      one-reached _ _ _ _ (k .loop .next) _ _ _ _ (m .match .last .core) _ (numbers (m .match .rows) (m .match .trades) (m .match .awards) (m .match .counts) (m .match .starts) (m .match .words) (ledgerOf (m .match .credits) (m .match .debits))) (e .event-at .result) _ (k .loop .used) _ (k .loop .inv .0)
           (omega (arith, k .before .before .events-in .ensures, t .before .loop-test .taken)) (e .event-at .ensures) refl (room-taken t) (shown _ _ _ _ _ _ _ _ _ _ _ _ _ (room-lent t) d (w .answer-lines .ensures)),
       d .places,
     )
@@ -214,7 +207,7 @@ returns c =
     let h = k .loop .inv .0 in
     let first = k .before in
     let s = first .before .before .before .before in (
-      subst (λ (b : Core). PlayedOn (now (s .args .file)) b (numbers (s .args .rows .now) (s .args .trades .now) (s .args .awards .now) (s .args .counts .now)) (s .args .from) (now (s .args .page)) (k .loop .page) (tables k) (record { core = k .loop .last .core; next = k .loop .next; used = k .loop .used }))
+      subst (λ (b : Core). PlayedOn (now (s .args .file)) b (numbers (s .args .rows .now) (s .args .trades .now) (s .args .awards .now) (s .args .counts .now) (s .args .starts .now) (s .args .words .now) (ledgerOf (s .args .credits .now) (s .args .debits .now))) (s .args .from) (now (s .args .page)) (k .loop .page) (tables k) (record { core = k .loop .last .core; next = k .loop .next; used = k .loop .used }))
           (ap (λ (r : Answered). r .core) (first .unplayed .ensures))
           (played-on _ _ _ _ _ _ _ _ _ _ h
           (λ there room.

@@ -5,7 +5,7 @@ use mathlib.Core.Bool.{true}
 use Rattle.laws.specs.Asked.{within, within-low, within-high, fails, passes}
 use Rattle.kept.specs.View.{view}
 use Rattle.kept.proofs.Auctions.{mark-room}
-use Rattle.calls.specs.View.{Numbers, numbers}
+use Rattle.calls.specs.View.{Numbers, onRows}
 use Rattle.calls.proofs.Auctioning.{attempt-missed, registered-at, attempt-refused, attempt-taken}
 use borrow.Author.Needs.{needs}
 use Rattle.calls.proofs.auctions.attempt.Statement.{statement}
@@ -15,7 +15,7 @@ abbrev start : tie.Else1 → tie.Start
 start c = c .before .before .before
 
 abbrev entry : tie.Start → Numbers
-entry s = numbers (s .args .rows .now) (s .pre .0) (s .pre .1) (s .pre .2)
+entry s = onRows (s .pre .0) (s .args .rows .now)
 
 abbrev looked : tie.After-row-at → tie.Else1
 looked r = r .before .before
@@ -35,7 +35,7 @@ refused-requires c κs = search needs
 returns : tie.Need-returns
 returns c =
     let t = c .before in
-    λ trades awards counts h. rw (c .refused .ensures) (attempt-missed _ (numbers _ trades awards counts) h _ (fails (t .if1 .taken) (t .before .is-within .ensures)))
+    λ others h. rw (c .refused .ensures) (attempt-missed _ (onRows others _) h _ (fails (t .if1 .taken) (t .before .is-within .ensures)))
 
 sub-place : tie.Need-sub-place
 sub-place c = within-low _ _ _ (in-use (c .before))
@@ -46,27 +46,27 @@ cast-place c = search needs
 row-at-requires : tie.Need-row-at-requires
 row-at-requires c κs =
     let e = c .before in
-    omega (arith, within-low _ _ _ (in-use e), within-high _ _ _ (in-use e), start e .pre .3 .valid .fits .positions .held)
+    omega (arith, within-low _ _ _ (in-use e), within-high _ _ _ (in-use e), start e .pre .1 .valid .fits .positions .held)
 
 class-of-requires : tie.Need-class-of-requires
 class-of-requires c κs =
     let s = start (looked c) in
-    let w = registered-at (s .args .core) (entry s) (s .pre .3) (s .args .a) (in-use (looked c)) _ (c .row-at .ensures) in
-    (s .pre .3 .valid .fits .register, w .0, w .1)
+    let w = registered-at (s .args .core) (entry s) (s .pre .1) (s .args .a) (in-use (looked c)) _ (c .row-at .ensures) in
+    (s .pre .1 .valid .fits .register, w .0, w .1)
 
 latest-of-requires : tie.Need-latest-of-requires
 unfolding view
 latest-of-requires c κs =
     let r = c .before in
     let s = start (looked r) in
-    let w = registered-at (s .args .core) (entry s) (s .pre .3) (s .args .a) (in-use (looked r)) _ (r .row-at .ensures) in
-    (s .pre .3 .valid .sound .standing .prices .many, record { above = w .0; below = w .1 })
+    let w = registered-at (s .args .core) (entry s) (s .pre .1) (s .args .a) (in-use (looked r)) _ (r .row-at .ensures) in
+    (s .pre .1 .valid .sound .standing .prices .many, record { above = w .0; below = w .1 })
 
 step-today-requires : tie.Need-step-today-requires
 step-today-requires c κs = search needs
 
 is-marked-requires : tie.Need-is-marked-requires
-is-marked-requires c κs = start (looked (c .before .before .before)) .pre .3 .valid .fits .marks
+is-marked-requires c κs = start (looked (c .before .before .before)) .pre .1 .valid .fits .marks
 
 attempt-refusal-requires : tie.Need-attempt-refusal-requires
 attempt-refusal-requires c κs = search needs
@@ -83,9 +83,9 @@ returns-2 c =
     let l = t .before in
     let s = l .before in
     let r = s .before in
-    λ trades awards counts h.
+    λ others h.
     rw (c .refused2 .ensures)
-    (attempt-refused _ (numbers _ trades awards counts) h _ (in-use (looked r)) _ (r .row-at .ensures) _ (s .class-of .ensures) _ (l .latest-of .ensures) _ (t .step-today .ensures) _ (m .is-marked .ensures) _ (k .attempt-refusal .ensures) (e .if2 .taken))
+    (attempt-refused _ (onRows others _) h _ (in-use (looked r)) _ (r .row-at .ensures) _ (s .class-of .ensures) _ (l .latest-of .ensures) _ (t .step-today .ensures) _ (m .is-marked .ensures) _ (k .attempt-refusal .ensures) (e .if2 .taken))
 
 price-of-requires : tie.Need-price-of-requires
 price-of-requires c κs = search needs
@@ -97,7 +97,7 @@ open-auction-requires : tie.Need-open-auction-requires
 open-auction-requires c κs =
     let e = c .before .before in
     let k = e .before in
-    (start (looked (k .before .before .before .before .before)) .pre .3 .valid .fits .marks .places, mark-room _ _ _ _ _ _ _ (sym (k .attempt-refusal .ensures) ∙ e .if2 .left))
+    (start (looked (k .before .before .before .before .before)) .pre .1 .valid .fits .marks .places, mark-room _ _ _ _ _ _ _ (sym (k .attempt-refusal .ensures) ∙ e .if2 .left))
 
 done-requires : tie.Need-done-requires
 done-requires c κs = search needs
@@ -114,9 +114,9 @@ returns-3 c =
     let l = t .before in
     let s = l .before in
     let r = s .before in
-    λ trades awards counts h.
+    λ others h.
     rw (c .done .ensures, f .open-auction .ensures)
-    (attempt-taken _ (numbers _ trades awards counts) h _ (in-use (looked r)) _ (r .row-at .ensures) _ (s .class-of .ensures) _ (l .latest-of .ensures) _ (t .step-today .ensures) _ (m .is-marked .ensures) _ (k .attempt-refusal .ensures) (e .if2 .left) _ (q .price-of .ensures) _ (o .ceiling-of .ensures))
+    (attempt-taken _ (onRows others _) h _ (in-use (looked r)) _ (r .row-at .ensures) _ (s .class-of .ensures) _ (l .latest-of .ensures) _ (t .step-today .ensures) _ (m .is-marked .ensures) _ (k .attempt-refusal .ensures) (e .if2 .left) _ (q .price-of .ensures) _ (o .ceiling-of .ensures))
 
 pub attempt-spec : {M : Type 1} → statement M
 attempt-spec =

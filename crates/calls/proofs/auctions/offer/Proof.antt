@@ -6,7 +6,7 @@ use Rattle.laws.specs.Asked.{within-low, within-high, Within}
 use Rattle.laws.specs.Refusals.{first}
 use Rattle.plain.specs.Refusals.{offerReasons}
 use Rattle.kept.proofs.Auctions.{offer-held, offer-room}
-use Rattle.calls.specs.View.{Numbers, numbers, keptOf}
+use Rattle.calls.specs.View.{Numbers, onRows, onWords, keptOf}
 use Rattle.calls.proofs.Auctioning.{offer-turned, security-within, offer-refused, offer-taken}
 use borrow.Author.Needs.{needs}
 use Rattle.calls.proofs.auctions.offer.Statement.{statement}
@@ -16,7 +16,7 @@ abbrev start : tie.Else1 → tie.Start
 start c = c .before .before
 
 abbrev entry : tie.Start → Numbers
-entry s = numbers (s .args .rows .now) (s .pre .0) (s .pre .1) (s .pre .2)
+entry s = onWords (onRows (s .pre .0) (s .args .rows .now)) (s .args .words .now)
 
 abbrev looked : tie.After-row-at → tie.Else1
 looked r = r .before .before
@@ -27,7 +27,7 @@ first-passed c = sym (c .before .offer-refusal .ensures) ∙ c .if1 .left
 inside : (c : tie.Else1) → Within 1 (start c .args .core .positions) (start c .args .o .position)
 inside c =
     let s = start c in
-    let w = offer-held (keptOf (s .args .core) (entry s)) (s .args .o) (s .pre .3 .valid) (first-passed c) in
+    let w = offer-held (keptOf (s .args .core) (entry s)) (s .args .o) (s .pre .1 .valid) (first-passed c) in
     record { above = within-low _ _ _ w; below = within-high _ _ _ w }
 
 room : (c : tie.Else2) → start (looked (c .before .before .before .before)) .args .core .auction .count < 16
@@ -42,7 +42,7 @@ refused-requires c κs = search needs
 returns : tie.Need-returns
 returns c =
     let t = c .before in
-    λ trades awards counts h. rw (c .refused .ensures) (offer-turned _ (numbers _ trades awards counts) h _ _ (t .before .offer-refusal .ensures) (t .if1 .taken))
+    λ others h. rw (c .refused .ensures) (offer-turned _ (onWords (onRows others _) _) h _ _ (t .before .offer-refusal .ensures) (t .if1 .taken))
 
 sub-place : tie.Need-sub-place
 sub-place c = inside (c .before) .above
@@ -53,12 +53,12 @@ cast-place c = search needs
 row-at-requires : tie.Need-row-at-requires
 row-at-requires c κs =
     let e = c .before in
-    omega (arith, inside e .above, inside e .below, start e .pre .3 .valid .fits .positions .held)
+    omega (arith, inside e .above, inside e .below, start e .pre .1 .valid .fits .positions .held)
 
 word-of-requires : tie.Need-word-of-requires
 word-of-requires c κs =
     let s = start (looked c) in
-    (s .pre .3 .lent .follows .failing .securities, security-within (s .args .core) (entry s) (s .pre .3) (s .args .o) (first-passed (looked c)) _ (c .row-at .ensures))
+    (s .pre .1 .lent .follows .failing .securities, security-within (s .args .core) (entry s) (s .pre .1) (s .args .o) (first-passed (looked c)) _ (c .row-at .ensures))
 
 is-failing-requires : tie.Need-is-failing-requires
 is-failing-requires c κs = search needs
@@ -76,9 +76,9 @@ returns-2 c =
     let f = k .before in
     let w = f .before in
     let r = w .before in
-    λ trades awards counts h.
+    λ others h.
     rw (c .refused2 .ensures)
-    (offer-refused _ (numbers _ trades awards counts) h _ (first-passed (looked r)) _ (r .row-at .ensures) _ (w .word-of .ensures) _ (f .is-failing .ensures) _ (k .auction-refusal .ensures) (t .if2 .taken))
+    (offer-refused _ (onWords (onRows others _) _) h _ (first-passed (looked r)) _ (r .row-at .ensures) _ (w .word-of .ensures) _ (f .is-failing .ensures) _ (k .auction-refusal .ensures) (t .if2 .taken))
 
 mul-o : tie.Need-mul-o
 mul-o c = search (needs, room (c .before))
@@ -99,9 +99,9 @@ returns-3 c =
     let f = k .before in
     let w = f .before in
     let r = w .before in
-    λ trades awards counts h.
+    λ others h.
     rw (c .done .ensures)
-    (offer-taken _ (numbers _ trades awards counts) h _ (first-passed (looked r)) _ (r .row-at .ensures) _ (w .word-of .ensures) _ (f .is-failing .ensures) _ (k .auction-refusal .ensures) (e .if2 .left))
+    (offer-taken _ (onWords (onRows others _) _) h _ (first-passed (looked r)) _ (r .row-at .ensures) _ (w .word-of .ensures) _ (f .is-failing .ensures) _ (k .auction-refusal .ensures) (e .if2 .left))
 
 pub offer-spec : {M : Type 1} → statement M
 offer-spec =

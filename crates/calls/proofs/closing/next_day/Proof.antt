@@ -4,11 +4,11 @@ use borrow.Author.Needs.{needs}
 use Rattle.calls.proofs.closing.next_day.Statement.{statement}
 use Rattle.calls.proofs.closing.next_day.Tie as tie
 
-add-t10 : tie.Need-add-t10
-add-t10 c = search needs
+add-t7 : tie.Need-add-t7
+add-t7 c = search needs
 
 returns : tie.Need-returns
 returns c = refl
 
 pub next-day-spec : {M : Type 1} → statement M
-next-day-spec = tie.close (tie.spec add-t10 returns)
+next-day-spec = tie.close (tie.spec add-t7 returns)

@@ -1,6 +1,7 @@
 -- `calls::discharge::buy_in` meets its contract.
 use native.Mathlib.Omega.{arith}
 use Rattle.laws.specs.Asked.{Within}
+use Rattle.ledger.specs.Posts.{ledgerOf}
 use Rattle.calls.specs.View.{Numbers, numbers}
 use Rattle.calls.proofs.Confirming.{short-there, buying-in, confirmable, chargeable, confirm-done}
 use borrow.Author.Needs.{needs}
@@ -8,7 +9,7 @@ use Rattle.calls.proofs.discharge.buy_in.Statement.{statement}
 use Rattle.calls.proofs.discharge.buy_in.Tie as tie
 
 abbrev entry : tie.Start → Numbers
-entry s = numbers (s .args .rows .now) (s .pre .0 .0) (s .args .awards .now) (s .args .counts .now)
+entry s = numbers (s .args .rows .now) (s .pre .0 .0) (s .args .awards .now) (s .args .counts .now) (s .args .starts .now) (s .args .words .now) (ledgerOf (s .args .credits .now) (s .args .debits .now))
 
 inside : (s : tie.Start) → Within 1 (s .args .core .positions) (s .args .award .position)
 inside s = short-there (s .args .core) (entry s) (s .args .c) (s .pre .0 .1) (s .args .award) (s .pre .1)
@@ -26,38 +27,35 @@ row-at-requires c κs =
 
 discharge-requires : tie.Need-discharge-requires
 discharge-requires c κs =
-    let r = c .before .before .before in
+    let r = c .before .before .before .before .before in
     let s = r .before .before .before in
-    buying-in (s .args .core) (entry s) (s .args .c) (s .pre .0 .1) (s .args .award) (s .pre .1) _ (r .row-at .ensures) _ (s .pre .2)
+    (_, buying-in (s .args .core) (entry s) (s .args .c) (s .pre .0 .1) (s .args .award) (s .pre .1) _ (r .row-at .ensures) _ (s .pre .2))
 
 post-buy-in-requires : tie.Need-post-buy-in-requires
 post-buy-in-requires c κs =
-    let r = c .before .before .before .before in
+    let r = c .before .before .before .before .before .before .before .before in
     let s = r .before .before .before in
     chargeable (s .args .core) (entry s) (s .args .c) (s .pre .0 .1) (s .args .award) (s .pre .1) (r .row-at .result) (r .row-at .ensures)
 
 confirm-award-requires : tie.Need-confirm-award-requires
 confirm-award-requires c κs =
-    let s = c .before .before .before .before .before .before .before .before .before in
+    let s = c .before .before .before .before .before .before .before .before .before .before .before .before .before in
     (confirmable (s .args .core) (entry s) (s .args .c) (s .pre .0 .1) (s .args .award) (s .pre .1), s .pre .0 .1 .held .lent .awards)
-
-charged-requires : tie.Need-charged-requires
-charged-requires c κs = search needs
 
 done-requires : tie.Need-done-requires
 done-requires c κs = search needs
 
 returns : tie.Need-returns
 returns c =
-    let g = c .before in
-    let m = g .before in
+    let m = c .before in
     let l = m .before .before in
-    let x = l .before in
-    let r = x .before .before .before .before in
+    let x = l .before .before .before in
+    let r = x .before .before .before .before .before .before in
     let s = r .before .before .before in
     λ trades t.
-    rw (c .done .ensures, g .charged .ensures)
-    (confirm-done _ (numbers _ trades _ _) _ t _ (s .pre .1) _ (r .row-at .ensures) _ _ _ _ _ _ _ _ (x .discharge .ensures) (l .post-buy-in .ensures) (m .confirm-award .ensures .0) (m .confirm-award .ensures .1))
+    let asked = buying-in _ (numbers _ trades _ _ _ _ _) _ t _ (s .pre .1) _ (r .row-at .ensures) _ (s .pre .2) in
+    rw (c .done .ensures)
+    (confirm-done _ (numbers _ trades _ _ _ _ _) _ t _ (s .pre .1) _ (r .row-at .ensures) _ _ _ _ _ _ _ _ _ (x .discharge .ensures _ asked) (l .post-buy-in .ensures) (m .confirm-award .ensures .0) (m .confirm-award .ensures .1))
 
 pub buy-in-spec : {M : Type 1} → statement M
 buy-in-spec =
@@ -69,6 +67,5 @@ buy-in-spec =
     discharge-requires
     post-buy-in-requires
     confirm-award-requires
-    charged-requires
     done-requires
     returns)

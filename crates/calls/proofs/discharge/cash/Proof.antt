@@ -10,6 +10,7 @@ use Rattle.laws.specs.Refusals.{first}
 use Rattle.plain.specs.Refusals.{lookupReasons}
 use Rattle.kept.specs.View.{view}
 use Rattle.kept.proofs.Discharging.{lookup-there}
+use Rattle.ledger.specs.Posts.{ledgerOf}
 use Rattle.calls.specs.View.{Numbers, numbers, Held, Taken, CashTerms}
 use Rattle.calls.proofs.Walking.{registered}
 use Rattle.calls.proofs.Settling.{cash-missing, cash-refused, cash-accepted}
@@ -18,7 +19,7 @@ use Rattle.calls.proofs.discharge.cash.Statement.{statement}
 use Rattle.calls.proofs.discharge.cash.Tie as tie
 
 abbrev entry : tie.Start → Numbers
-entry s = numbers (s .args .rows .now) (s .pre .0 .0) (s .pre .0 .1) (s .args .counts .now)
+entry s = numbers (s .args .rows .now) (s .pre .0 .0) (s .pre .0 .1) (s .args .counts .now) (s .args .starts .now) (s .args .words .now) (ledgerOf (s .args .credits .now) (s .args .debits .now))
 
 abbrev start : tie.Else1 → tie.Start
 start c = c .before .before
@@ -60,7 +61,7 @@ refused-requires c κs = search needs
 returns : tie.Need-returns
 returns c =
     let t = c .before in
-    λ trades awards h. rw (c .refused .ensures) (cash-missing _ (numbers _ trades awards _) h _ _ _ (t .before .lookup-refusal .ensures) (t .if1 .taken) (t .before .before .pre .1))
+    λ trades awards h. rw (c .refused .ensures) (cash-missing _ (numbers _ trades awards _ _ _ _) h _ _ _ (t .before .lookup-refusal .ensures) (t .if1 .taken) (t .before .before .pre .1))
 
 sub-place : tie.Need-sub-place
 sub-place c = inside (c .before) .above
@@ -98,29 +99,29 @@ returns-2 c =
     let e = looked (read k) in
     λ trades awards h.
     rw (c .refused2 .ensures)
-    (cash-refused _ (numbers _ trades awards _) h _ _ _ _ _ _ (there e) (read k .row-at .ensures) (k .before .before .before .class-of .ensures) (k .before .before .latest-of .ensures) (k .before .step-today .ensures) (k .cash-refusal .ensures) _ (t .if2 .taken) (start e .pre .1))
+    (cash-refused _ (numbers _ trades awards _ _ _ _) h _ _ _ _ _ _ (there e) (read k .row-at .ensures) (k .before .before .before .class-of .ensures) (k .before .before .latest-of .ensures) (k .before .step-today .ensures) (k .cash-refusal .ensures) _ (t .if2 .taken) (start e .pre .1))
 
 -- nothing turns it down, whatever trades and awards the caller speaks of
 taken : (e : tie.Else2) → let s = start (looked (read (e .before))) in
-    (trades awards : _) → Held (s .args .core) (numbers (s .args .rows .now) trades awards (s .args .counts .now))
-    → Taken (s .args .core) (numbers (s .args .rows .now) trades awards (s .args .counts .now)) (call (event.Cash (s .args .c)) 1024)
+    (trades awards : _) → Held (s .args .core) (numbers (s .args .rows .now) trades awards (s .args .counts .now) (s .args .starts .now) (s .args .words .now) (ledgerOf (s .args .credits .now) (s .args .debits .now)))
+    → Taken (s .args .core) (numbers (s .args .rows .now) trades awards (s .args .counts .now) (s .args .starts .now) (s .args .words .now) (ledgerOf (s .args .credits .now) (s .args .debits .now))) (call (event.Cash (s .args .c)) 1024)
 taken e trades awards h =
     let k = e .before in
-    cash-accepted _ (numbers _ trades awards _) h _ _ _ _ _ _ (there (looked (read k))) (read k .row-at .ensures) (k .before .before .before .class-of .ensures) (k .before .before .latest-of .ensures) (k .before .step-today .ensures) (k .cash-refusal .ensures) (e .if2 .left)
+    cash-accepted _ (numbers _ trades awards _ _ _ _) h _ _ _ _ _ _ (there (looked (read k))) (read k .row-at .ensures) (k .before .before .before .class-of .ensures) (k .before .before .latest-of .ensures) (k .before .step-today .ensures) (k .cash-refusal .ensures) (e .if2 .left)
 
 price-of-requires : tie.Need-price-of-requires
 price-of-requires c κs = search needs
 
 settle-requires : tie.Need-settle-requires
 settle-requires c κs =
-    let x = c .before .before .before in
+    let x = c .before .before .before .before .before .before .before in
     let e = x .before in
     let s = start (looked (read (e .before))) in
     ((s .pre .0 .0, s .pre .0 .1, taken e (s .pre .0 .0) (s .pre .0 .1) (s .pre .0 .2)), terms x, s .pre .1)
 
 returns-3 : tie.Need-returns-3
 returns-3 c =
-    let e = c .before .before .before .before .before in
+    let e = c .before .before .before .before .before .before .before .before .before in
     λ trades awards h. c .settle .ensures trades awards (taken e trades awards h)
 
 pub cash-spec : {M : Type 1} → statement M

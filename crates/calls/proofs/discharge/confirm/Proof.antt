@@ -4,6 +4,7 @@ use mathlib.Core.Path.{_≡_, sym, _∙_}
 use Rattle.laws.specs.Refusals.{first}
 use Rattle.plain.specs.Refusals.{lookupReasons}
 use Rattle.kept.proofs.Discharging.{lookup-there}
+use Rattle.ledger.specs.Posts.{ledgerOf}
 use Rattle.calls.specs.View.{numbers, Held, Taken}
 use Rattle.plain.specs.Calls.{call}
 use Rattle.events.specs.declared.Event.the-variants as event
@@ -30,7 +31,7 @@ refused-requires c κs = search needs
 returns : tie.Need-returns
 returns c =
     let t = c .before in
-    λ trades h. rw (c .refused .ensures) (confirm-missing _ (numbers _ trades _ _) h _ _ _ (t .before .lookup-refusal .ensures) (t .if1 .taken) (t .before .before .pre .1))
+    λ trades h. rw (c .refused .ensures) (confirm-missing _ (numbers _ trades _ _ _ _ _) h _ _ _ (t .before .lookup-refusal .ensures) (t .if1 .taken) (t .before .before .pre .1))
 
 sub-k : tie.Need-sub-k
 sub-k c = lookup-there 1024 _ _ (there (c .before)) .above
@@ -57,27 +58,27 @@ returns-2 c =
     let w = k .before in
     λ trades h.
     rw (c .refused2 .ensures)
-    (confirm-refused _ (numbers _ trades _ _) h _ _ _ (there (looked w)) (w .award-at .ensures) (k .confirm-refusal .ensures) _ (t .if2 .taken) (start (looked w) .pre .1))
+    (confirm-refused _ (numbers _ trades _ _ _ _ _) h _ _ _ (there (looked w)) (w .award-at .ensures) (k .confirm-refusal .ensures) _ (t .if2 .taken) (start (looked w) .pre .1))
 
 -- nothing turns it down, whatever trades the caller speaks of
 taken : (e : tie.Else2) → let s = start (looked (e .before .before)) in
-    (trades : _) → Held (s .args .core) (numbers (s .args .rows .now) trades (s .args .awards .now) (s .args .counts .now))
-    → Taken (s .args .core) (numbers (s .args .rows .now) trades (s .args .awards .now) (s .args .counts .now)) (call (event.Confirm (s .args .c)) 1024)
+    (trades : _) → Held (s .args .core) (numbers (s .args .rows .now) trades (s .args .awards .now) (s .args .counts .now) (s .args .starts .now) (s .args .words .now) (ledgerOf (s .args .credits .now) (s .args .debits .now)))
+    → Taken (s .args .core) (numbers (s .args .rows .now) trades (s .args .awards .now) (s .args .counts .now) (s .args .starts .now) (s .args .words .now) (ledgerOf (s .args .credits .now) (s .args .debits .now))) (call (event.Confirm (s .args .c)) 1024)
 taken e trades h =
     let k = e .before in
     let w = k .before in
-    confirm-accepted _ (numbers _ trades _ _) h _ _ _ (there (looked w)) (w .award-at .ensures) (k .confirm-refusal .ensures) (e .if2 .left)
+    confirm-accepted _ (numbers _ trades _ _ _ _ _) h _ _ _ (there (looked w)) (w .award-at .ensures) (k .confirm-refusal .ensures) (e .if2 .left)
 
 buy-in-requires : tie.Need-buy-in-requires
 buy-in-requires c κs =
-    let e = c .before .before .before .before in
+    let e = c .before .before .before .before .before .before .before .before in
     let w = e .before .before in
     let s = start (looked w) in
     ((s .pre .0 .0, taken e (s .pre .0 .0) (s .pre .0 .1)), w .award-at .ensures, s .pre .1)
 
 returns-3 : tie.Need-returns-3
 returns-3 c =
-    let e = c .before .before .before .before .before in
+    let e = c .before .before .before .before .before .before .before .before .before in
     λ trades h. c .buy-in .ensures trades (taken e trades h)
 
 pub confirm-spec : {M : Type 1} → statement M

@@ -1,4 +1,5 @@
 -- `calls::discharge::discharge` meets its contract.
+use native.Mathlib.Omega.{arith}
 use mathlib.Core.Path.{refl}
 use borrow.Author.Needs.{needs}
 use Rattle.calls.proofs.Walking.{units-of, lowered-late, follows-after, starts-moved}
@@ -6,24 +7,27 @@ use Rattle.calls.proofs.discharge.discharge.Statement.{statement}
 use Rattle.calls.proofs.discharge.discharge.Tie as tie
 
 start-of-requires : tie.Need-start-of-requires
-start-of-requires c κs = search needs
+start-of-requires c κs =
+    let f = c .before .pre .1 .falling in
+    (f .follows .started .places, f .security)
 
 deal-requires : tie.Need-deal-requires
 deal-requires c κs =
     let o = c .before .before in
-    let f = o .before .pre in
+    let s = o .before .before in
+    let f = s .pre .1 in
     record {
       dealing = f .dealing;
       some = f .falling .some;
       rows-length = f .rows-length;
       sheet-length = f .sheet-length;
-      within = rw (o .start-of .ensures) (f .falling .follows .started .within (o .before .args .p .security));
+      within = rw (o .start-of .ensures) (f .falling .follows .started .within (s .args .p .security));
       closed = rw (o .start-of .ensures, ← f .falling .own) (f .falling .follows .started .closed _ (f .falling .security .above));
     }
 
 discharged-requires : tie.Need-discharged-requires
 discharged-requires c κs =
-    let f = c .before .before .before .before .before .pre .falling in
+    let f = c .before .before .before .before .before .before .before .pre .1 .falling in
     ((_, _, f .follows .failing, units-of _ _ _ _ _ _ _ _ _ _ f), f .security, f .member)
 
 sub-k : tie.Need-sub-k
@@ -32,21 +36,17 @@ sub-k c = search needs
 cast-k : tie.Need-cast-k
 cast-k c = search needs
 
-cast-after : tie.Need-cast-after
-cast-after c = search needs
+mul-starts : tie.Need-mul-starts
+mul-starts c = search needs
 
-mul-after : tie.Need-mul-after
-mul-after c = search needs
-
-element-write-after : tie.Need-element-write-after
-element-write-after c = search needs
+element-write-starts : tie.Need-element-write-starts
+element-write-starts c = omega (arith, c .before .before .before .before .before .before .before .before .before .pre .1 .falling .security .below)
 
 returns : tie.Need-returns
-returns c =
-    let d = c .before .before in
-    let w = d .before .before in
-    let s = w .before .before .before .before in
-    let f = s .pre .falling in
+returns c = λ late asks.
+    let d = c .before in
+    let w = d .before .before .before in
+    let f = asks .falling in
     let low = w .deal .ensures .dealt .positions in
     record {
       dealt = w .deal .ensures .dealt;
@@ -67,7 +67,6 @@ discharge-spec =
     discharged-requires
     sub-k
     cast-k
-    cast-after
-    mul-after
-    element-write-after
+    mul-starts
+    element-write-starts
     returns)

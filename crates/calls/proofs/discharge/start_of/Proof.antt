@@ -18,12 +18,9 @@ mul-result c = search needs
 element-copy-out-result : tie.Need-element-copy-out-result
 element-copy-out-result c = search needs
 
-cast-result : tie.Need-cast-result
-cast-result c = search needs
-
 returns : tie.Need-returns
-returns c = sym (nth-at {A = ℕ} 0 (c .before .args .t1 .starts) _ (c .before .pre .1 .above))
+returns c = sym (nth-at {A = ℕ} 0 (c .before .args .starts .now) _ (c .before .pre .1 .above))
 
 pub start-of-spec : {M : Type 1} → statement M
 start-of-spec =
-    tie.close (tie.spec sub-k cast-k mul-result element-copy-out-result cast-result returns)
+    tie.close (tie.spec sub-k cast-k mul-result element-copy-out-result returns)

@@ -14,17 +14,9 @@ no-auction-requires c κs = search needs
 no-marks-requires : tie.Need-no-marks-requires
 no-marks-requires c κs = search needs
 
-no-cents-requires : tie.Need-no-cents-requires
-no-cents-requires c κs = search needs
-
-none-followed-requires : tie.Need-none-followed-requires
-none-followed-requires c κs = search needs
-
 returns : tie.Need-returns
 returns c =
-    let l = c .before in
-    let m = l .before in
-    let a = m .before in
+    let a = c .before in
     let p = a .before in
     λ numbers blank.
     opened _
@@ -32,13 +24,12 @@ returns c =
       day = refl;
       prices = p .no-prices .ensures;
       auction = a .no-auction .ensures;
-      marks = m .no-marks .ensures;
-      ledger = l .no-cents .ensures;
-      followed = c .none-followed .ensures;
+      marks = c .no-marks .ensures;
+      late = refl;
       uses = (refl, refl, refl, refl);
     })
     numbers blank
 
 pub new-core-spec : {M : Type 1} → statement M
 new-core-spec =
-    tie.close (tie.spec no-prices-requires no-auction-requires no-marks-requires no-cents-requires none-followed-requires returns)
+    tie.close (tie.spec no-prices-requires no-auction-requires no-marks-requires returns)

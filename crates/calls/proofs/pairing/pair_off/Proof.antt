@@ -12,9 +12,9 @@ use borrow.Author.Needs.{needs}
 use Rattle.calls.proofs.pairing.pair_off.Statement.{statement}
 use Rattle.calls.proofs.pairing.pair_off.Tie as tie
 
--- the numbers at entry, with the trades that the caller speaks of
+-- the numbers at entry, with the trades, starts and accounts that the caller speaks of
 abbrev entry : tie.Start → Numbers
-entry s = numbers (s .args .rows .now) (s .pre .0 .0) (s .args .awards .now) (s .args .counts .now)
+entry s = numbers (s .args .rows .now) (s .pre .0 .0) (s .args .awards .now) (s .args .counts .now) (s .pre .0 .1) (s .args .words .now) (s .pre .0 .2)
 
 abbrev start : tie.Else1 → tie.Start
 start c = c .before .before
@@ -26,7 +26,7 @@ inside : (c : tie.Else1) → (Within 1 (start c .args .core .positions) (start c
 inside c = both-there 1024 _ _ _ (there c)
 
 few : (c : tie.Else1) → start c .args .core .positions ≤ 1024
-few c = start c .pre .0 .1 .valid .fits .positions .held
+few c = start c .pre .0 .3 .valid .fits .positions .held
 
 -- from where both rows are read, back to where the short's was, and to where both positions are there
 abbrev first-row : tie.After-row-at2 → tie.After-row-at
@@ -44,7 +44,7 @@ refused-requires c κs = search needs
 returns : tie.Need-returns
 returns c =
     let t = c .before in
-    λ trades h. rw (c .refused .ensures) (pair-off-missing _ (numbers _ trades _ _) h _ _ _ (t .before .both-lookup-refusal .ensures) (t .if1 .taken) (t .before .before .pre .1))
+    λ trades starts accounts h. rw (c .refused .ensures) (pair-off-missing _ (numbers _ trades _ _ starts _ accounts) h _ _ _ (t .before .both-lookup-refusal .ensures) (t .if1 .taken) (t .before .before .pre .1))
 
 sub-short-place : tie.Need-sub-short-place
 sub-short-place c = inside (c .before) .0 .above
@@ -71,7 +71,7 @@ row-at-requires-2 c κs =
 unconfirmed-units-requires : tie.Need-unconfirmed-units-requires
 unconfirmed-units-requires c κs =
     let s = start (looked c) in
-    countable (keptOf (s .args .core) (entry s)) (s .pre .0 .1 .valid)
+    countable (keptOf (s .args .core) (entry s)) (s .pre .0 .3 .valid)
 
 pair-off-refusal-requires : tie.Need-pair-off-refusal-requires
 pair-off-refusal-requires c κs = search needs
@@ -85,18 +85,18 @@ returns-2 c =
     let k = t .before in
     let u = k .before in
     let r = u .before in
-    λ trades h.
+    λ trades starts accounts h.
     rw (c .refused2 .ensures)
-    (pair-off-refused _ (numbers _ trades _ _) h _ _ _ _ _ (there (looked r)) (first-row r .row-at .ensures) (r .row-at2 .ensures) (u .unconfirmed-units .ensures) (k .pair-off-refusal .ensures) _ (t .if2 .taken) (start (looked r) .pre .1))
+    (pair-off-refused _ (numbers _ trades _ _ starts _ accounts) h _ _ _ _ _ (there (looked r)) (first-row r .row-at .ensures) (r .row-at2 .ensures) (u .unconfirmed-units .ensures) (k .pair-off-refusal .ensures) _ (t .if2 .taken) (start (looked r) .pre .1))
 
 set-off-requires : tie.Need-set-off-requires
 set-off-requires c κs =
-    let e = c .before .before .before in
+    let e = c .before .before .before .before in
     let k = e .before in
     let u = k .before in
     let r = u .before in
     let s = start (looked r) in
-    (_, pairing (s .args .core) (entry s) (s .pre .0 .1) (s .args .x) _ _ _ _ (there (looked r)) (first-row r .row-at .ensures) (r .row-at2 .ensures) (u .unconfirmed-units .ensures) (k .pair-off-refusal .ensures) (e .if2 .left) _ (s .pre .1))
+    (_, _, _, pairing (s .args .core) (entry s) (s .pre .0 .3) (s .args .x) _ _ _ _ (there (looked r)) (first-row r .row-at .ensures) (r .row-at2 .ensures) (u .unconfirmed-units .ensures) (k .pair-off-refusal .ensures) (e .if2 .left) _ (s .pre .1))
 
 done-requires : tie.Need-done-requires
 done-requires c κs = search needs
@@ -104,14 +104,14 @@ done-requires c κs = search needs
 returns-3 : tie.Need-returns-3
 returns-3 c =
     let x = c .before in
-    let e = x .before .before .before .before in
+    let e = x .before .before .before .before .before in
     let k = e .before in
     let u = k .before in
     let r = u .before in
-    λ trades h.
-    let asked = pairing _ (numbers _ trades _ _) h _ _ _ _ _ (there (looked r)) (first-row r .row-at .ensures) (r .row-at2 .ensures) (u .unconfirmed-units .ensures) (k .pair-off-refusal .ensures) (e .if2 .left) _ (start (looked r) .pre .1) in
+    λ trades starts accounts h.
+    let asked = pairing _ (numbers _ trades _ _ starts _ accounts) h _ _ _ _ _ (there (looked r)) (first-row r .row-at .ensures) (r .row-at2 .ensures) (u .unconfirmed-units .ensures) (k .pair-off-refusal .ensures) (e .if2 .left) _ (start (looked r) .pre .1) in
     rw (c .done .ensures)
-    (pair-off-done _ (numbers _ trades _ _) h _ _ _ _ _ (there (looked r)) (first-row r .row-at .ensures) (r .row-at2 .ensures) (u .unconfirmed-units .ensures) (k .pair-off-refusal .ensures) (e .if2 .left) _ _ _ _ _ (x .set-off .ensures _ asked))
+    (pair-off-done _ (numbers _ trades _ _ starts _ accounts) h _ _ _ _ _ (there (looked r)) (first-row r .row-at .ensures) (r .row-at2 .ensures) (u .unconfirmed-units .ensures) (k .pair-off-refusal .ensures) (e .if2 .left) _ _ _ _ _ (x .set-off .ensures _ _ _ asked))
 
 pub pair-off-spec : {M : Type 1} → statement M
 pair-off-spec =

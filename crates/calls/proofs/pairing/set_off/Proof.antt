@@ -11,19 +11,19 @@ abbrev start : tie.After-struct-known → tie.Start
 start c = c .before .before .before
 
 cast-set-off : tie.Need-cast-set-off
-cast-set-off c = omega (arith, start c .pre .1 .setting .long-held .below)
+cast-set-off c = omega (arith, start c .pre .3 .setting .long-held .below)
 
 set-off-requires : tie.Need-set-off-requires
-set-off-requires c κs = start c .pre .1 .setting
+set-off-requires c κs = start c .pre .3 .setting
 
 discharged-requires : tie.Need-discharged-requires
 discharged-requires c κs =
-    let f = start (c .before .before) .pre .1 .falling in
+    let f = start (c .before .before .before) .pre .3 .falling in
     ((_, _, f .follows .failing, units-of _ _ _ _ _ _ _ _ _ _ f), f .security, f .member)
 
 returns : tie.Need-returns
-returns c = λ held asks.
-    let w = c .before .before in
+returns c = λ held starts late asks.
+    let w = c .before .before .before in
     let f = asks .falling in
     let out = set-off-out _ held _ _ _ _ _ (f .fits .held) (w .set-off .ensures) in
     let low = out .positions in

@@ -8,7 +8,7 @@ use Rattle.calls.proofs.reading.balance.Statement.{statement}
 use Rattle.calls.proofs.reading.balance.Tie as tie
 
 returns : tie.Need-returns
-returns c = λ a. rw (lt-ltb 63 (c .before .args .account) (c .if1 .taken))
+returns c = λ core others. rw (lt-ltb 63 (c .before .args .account) (c .if1 .taken))
 
 mul-credit : tie.Need-mul-credit
 mul-credit c = search needs
@@ -28,14 +28,14 @@ sub-t14 c = search needs
 returns-2 : tie.Need-returns-2
 unfolding view Rattle.plain.specs.Histories.balance
 returns-2 c =
-    let e = c .before .before .before .before in
-    λ a. rw (le-ltb 63 (e .before .args .account) (e .if1 .left)) (sym (debit-is _ _ (c .if2 .taken)))
+    let e = c .before .before .before in
+    λ core others. rw (le-ltb 63 (e .before .args .account) (e .if1 .left)) (sym (debit-is _ _ (c .if2 .taken)))
 
 returns-3 : tie.Need-returns-3
 unfolding view Rattle.plain.specs.Histories.balance
 returns-3 c =
-    let e = c .before .before .before .before in
-    λ a. rw (le-ltb 63 (e .before .args .account) (e .if1 .left)) (sym (credit-is _ _ (c .if2 .left)))
+    let e = c .before .before .before in
+    λ core others. rw (le-ltb 63 (e .before .args .account) (e .if1 .left)) (sym (credit-is _ _ (c .if2 .left)))
 
 pub balance-spec : {M : Type 1} → statement M
 balance-spec =

@@ -15,7 +15,7 @@ refused-requires c κs = search needs
 returns : tie.Need-returns
 returns c =
     let t = c .before in
-    λ rows awards counts h. rw (c .refused .ensures) (trade-refused _ rows _ awards counts _ h _ (t .before .trade-refusal .ensures) (t .if1 .taken))
+    λ others h. rw (c .refused .ensures) (trade-refused _ others _ _ h _ (t .before .trade-refusal .ensures) (t .if1 .taken))
 
 put-trade-requires : tie.Need-put-trade-requires
 put-trade-requires c κs =
@@ -34,9 +34,9 @@ returns-2 : tie.Need-returns-2
 returns-2 c =
     let p = c .before in
     let e = p .before .before in
-    λ rows awards counts h.
+    λ others h.
     rw (c .done .ensures)
-    (trade-taken _ rows _ awards counts _ h _ (e .before .trade-refusal .ensures) (e .if1 .left) _ (p .put-trade .ensures .0) (p .put-trade .ensures .1))
+    (trade-taken _ others _ _ h _ (e .before .trade-refusal .ensures) (e .if1 .left) _ (p .put-trade .ensures .0) (p .put-trade .ensures .1))
 
 pub trade-spec : {M : Type 1} → statement M
 trade-spec =
