@@ -31,9 +31,14 @@ use events::PairOff;
 use events::Price;
 use events::Trade;
 use laws::ACCOUNTS;
+use laws::AWARD_CELLS;
 use laws::BusinessDay;
+use laws::COUNT_CELLS;
 use laws::PLACES;
+use laws::POSITION_CELLS;
 use laws::SECURITIES;
+use laws::SHEET_CELLS;
+use laws::TRADE_CELLS;
 use plain::Ledger;
 use plain::Manner;
 use plain::Outcome;
@@ -42,10 +47,10 @@ use tables::Pieces;
 
 pub struct Book {
     core: Core,
-    rows: [u32; 12288],
-    trades: [u32; 3584],
-    awards: [u32; 1280],
-    counts: [u32; 2048],
+    rows: [u32; POSITION_CELLS],
+    trades: [u32; TRADE_CELLS],
+    awards: [u32; AWARD_CELLS],
+    counts: [u32; COUNT_CELLS],
     starts: [usize; SECURITIES],
     words: [u64; SECURITIES],
     credits: [u64; ACCOUNTS],
@@ -74,10 +79,10 @@ pub struct Opened {
 // One value of a core and the tables that were lent with it.
 pub fn made_of(
     core: Core,
-    rows: [u32; 12288],
-    trades: [u32; 3584],
-    awards: [u32; 1280],
-    counts: [u32; 2048],
+    rows: [u32; POSITION_CELLS],
+    trades: [u32; TRADE_CELLS],
+    awards: [u32; AWARD_CELLS],
+    counts: [u32; COUNT_CELLS],
     starts: [usize; SECURITIES],
     words: [u64; SECURITIES],
     credits: [u64; ACCOUNTS],
@@ -240,7 +245,7 @@ fn small_sheet(book: Book) -> Discharged
 fn handed_out(
     book: Book,
     answered: calls::Answered,
-    sheet: &[u64; 4096],
+    sheet: &[u64; SHEET_CELLS],
     manner: Manner,
 ) -> Discharged
     ensures { λ r. ⌜ r ≡ record { book = withCore book (answered .core); outcome = answered .outcome; pieces = pieceTable manner (now (sheet .entry)) (answered .pieces) } ⌝ }

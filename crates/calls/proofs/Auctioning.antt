@@ -7,6 +7,7 @@ use mathlib.Core.Bool.{Bool, true, false}
 use mathlib.Core.List.{List, []}
 use lib.ListN.{length}
 use lib.Dec.{eqb}
+use Rattle.laws.specs.Limits.{AWARD-CELLS}
 use Rattle.laws.specs.Asked.{within, within-low, within-high, Within}
 use Rattle.laws.specs.Lists.{some}
 use Rattle.rules.specs.Windows.{stepOn}
@@ -123,7 +124,7 @@ module _ (b : Core) (a : Numbers) (h : Held b a) (w : Award) (number : ℕ) (is 
     award-asks = awardable (keptOf b a) w (h .valid) (award-is ∙ z)
 
     pub award-taken : (p : Position) (ws : List ℕ) (count total : ℕ) → p ≡ rowOf (a .rows) (w .position)
-        → Awarded (b .auction) (p .unsettled) (awardTable (a .awards) (b .awards)) (awardTable ws count) total → length ws ≡ 1280
+        → Awarded (b .auction) (p .unsettled) (awardTable (a .awards) (b .awards)) (awardTable ws count) total → length ws ≡ AWARD-CELLS
         → CalledBare b a (call (event.Award w) 0) (awardedCore b count) (onAwards a ws) (outcome.Done total) 0
     unfolding view handsOut
     award-taken p ws count total row made long =

@@ -6,6 +6,7 @@ use mathlib.Core.Logic.{_≢_}
 use mathlib.Core.List.{List, _++_}
 use lib.ListN.{length, getD, take, length-append, length-take, List·getD-append}
 use lib.Seq.{getD-take, length-take-le}
+use Rattle.laws.specs.Limits.{POSITION-CELLS}
 use Rattle.laws.specs.Lists.{All}
 use Rattle.laws.specs.Alls.{all-of}
 use Rattle.events.specs.declared.Event.the-variants as event
@@ -87,7 +88,7 @@ numbered b a h =
       securities = all-of _ (λ p. Within 1 32 (p .security)) (heldIn (a .rows) (b .positions)) (λ p f. f .security) (accounted (keptOf b a) (h .valid));
     }
 
-module _ (b : Core) (a : Numbers) (t : Taken b a (call event.Close 0)) (zs cs ws : List ℕ) (until count : ℕ) (l : Ledger) (long : length zs ≡ 12288)
+module _ (b : Core) (a : Numbers) (t : Taken b a (call event.Close 0)) (zs cs ws : List ℕ) (until count : ℕ) (l : Ledger) (long : length zs ≡ POSITION-CELLS)
     (posts : l ≡ posted (a .ledger) (closeChargesOf (awardTable (a .awards) (b .awards)) (positionTable (a .rows) (b .positions)) (b .prices) (b .opening .register) (b .day)))
     (counted : Counted (b .day .0 + 1) (heldIn (a .rows) (b .positions)) ws cs) (late : LateBefore (b .day .0 + 1) (heldIn (a .rows) (b .positions)) until)
     (day : DayNetted (positionTable (a .rows) (b .positions)) (tradeTable (a .trades) (b .trades) (b .netted)) (b .day) (b .opening .register .count) (positionTable zs count)) where

@@ -5,6 +5,7 @@ use mathlib.Core.Path.{_≡_, sym, _∙_}
 use mathlib.Core.Logic.{_≢_}
 use mathlib.Core.List.{List, [], _∷_}
 use lib.ListN.{length, getD}
+use Rattle.laws.specs.Limits.{AWARD-CELLS, SHEET-CELLS}
 use Rattle.rules.specs.Charges.{buyInCharge}
 use Rattle.events.specs.declared.Confirm.{Confirm}
 use Rattle.events.specs.declared.Event.the-variants as event
@@ -40,7 +41,7 @@ unfolding view table.awards
 award-read b a n award in-use row = row ∙ sym (nth-take noAward (awardsOf (a .awards)) (b .awards) n in-use)
 
 module _ (b : Core) (a : Numbers) (h : Held b a) (c : Confirm) where
-  pub confirm-missing : (number : ℕ) (sheet : List ℕ) → number ≡ first (lookupReasons 1024 (b .awards) (c .award)) → number ≢ 0 → length sheet ≡ 4096
+  pub confirm-missing : (number : ℕ) (sheet : List ℕ) → number ≡ first (lookupReasons 1024 (b .awards) (c .award)) → number ≢ 0 → length sheet ≡ SHEET-CELLS
       → CalledOn b a (call (event.Confirm c) 1024) manner.BoughtIn sheet b a sheet (outcome.Refused number) 0
   confirm-missing number sheet e some long =
       refused-on b a (call (event.Confirm c) 1024) manner.BoughtIn sheet number h (missing-number (lookupReasons 1024 _ _) _ _ (confirm-split (keptOf b a) (h .valid) c 1024) number e some) some long
@@ -52,7 +53,7 @@ module _ (b : Core) (a : Numbers) (h : Held b a) (c : Confirm) where
         let w = lookup-there 1024 (b .awards) (c .award) there in
         confirm-number (keptOf b a) (h .valid) c 1024 award number there (award-read b a (c .award) award w row) is
 
-    pub confirm-refused : (sheet : List ℕ) → number ≢ 0 → length sheet ≡ 4096 → CalledOn b a (call (event.Confirm c) 1024) manner.BoughtIn sheet b a sheet (outcome.Refused number) 0
+    pub confirm-refused : (sheet : List ℕ) → number ≢ 0 → length sheet ≡ SHEET-CELLS → CalledOn b a (call (event.Confirm c) 1024) manner.BoughtIn sheet b a sheet (outcome.Refused number) 0
     confirm-refused sheet some long = refused-on b a (call (event.Confirm c) 1024) manner.BoughtIn sheet number h number-is some long
 
     pub confirm-accepted : number ≡ 0 → Taken b a (call (event.Confirm c) 1024)
@@ -81,7 +82,7 @@ module _ (b : Core) (a : Numbers) (c : Confirm) (t : Taken b a (call (event.Conf
       (λ e. omega (arith, e, nth-all noAward AwardFits (table.awards (keptOf b a .awards)) (c .award) (rw (awards-many (keptOf b a .awards) (t .held .valid .fits .awards)) in-use) (t .held .valid .sound .auctioned .awards-fit) .quantity .above))
 
   module _ (p : Position) (own : p ≡ rowOf (a .rows) (award .position)) where
-    pub buying-in : (sheet : List ℕ) → length sheet ≡ 4096 → Discharging (b .day .0) (a .rows) (b .positions) (a .counts) sheet (followedIn b a) (award .position) p (award .quantity) manner.BoughtIn
+    pub buying-in : (sheet : List ℕ) → length sheet ≡ SHEET-CELLS → Discharging (b .day .0) (a .rows) (b .positions) (a .counts) sheet (followedIn b a) (award .position) p (award .quantity) manner.BoughtIn
     buying-in sheet long =
         discharging b a (t .held) (award .position) (award .quantity) manner.BoughtIn (buy-in-dealing (keptOf b a) (t .held .valid) c able award award-is) p sheet some-units own long
 
@@ -90,7 +91,7 @@ module _ (b : Core) (a : Numbers) (c : Confirm) (t : Taken b a (call (event.Conf
 
     pub confirm-done : (zs ws cs ss fs sheet left : List ℕ) (made : ℕ) (l : Ledger) → Discharged (b .day .0) (a .rows) (b .positions) (award .position) (award .quantity) manner.BoughtIn zs cs left (followed ss fs (b .late)) made
         → l ≡ posted (a .ledger) (charge (p .member) (buyInCharge (award .quantity) (award .price) (p .reference)) ∷ [])
-        → Confirmed (awardTable (a .awards) (b .awards)) (c .award) (awardTable ws (b .awards)) → length ws ≡ 1280
+        → Confirmed (awardTable (a .awards) (b .awards)) (c .award) (awardTable ws (b .awards)) → length ws ≡ AWARD-CELLS
         → CalledOn b a (call (event.Confirm c) 1024) manner.BoughtIn sheet b (numbers zs (a .trades) ws cs ss fs l) left (outcome.Done (award .quantity)) made
     unfolding table.pieces
     confirm-done zs ws cs ss fs sheet left made l w posts marked long =

@@ -4,6 +4,7 @@ use mathlib.Core.Path.{_≡_, _∙_}
 use mathlib.Core.Logic.{_≢_}
 use mathlib.Core.List.{List}
 use lib.ListN.{length}
+use Rattle.laws.specs.Limits.{SHEET-CELLS}
 use Rattle.events.specs.declared.Delivery.{Delivery}
 use Rattle.events.specs.declared.Event.the-variants as event
 use Rattle.plain.specs.declared.Position.{Position}
@@ -23,7 +24,7 @@ use Rattle.calls.proofs.Returns.{refused-on, taken-on}
 use Rattle.calls.proofs.Walking.{row-is, discharging}
 
 module _ (b : Core) (a : Numbers) (h : Held b a) (d : Delivery) where
-  pub delivery-missing : (number : ℕ) (sheet : List ℕ) → number ≡ first (lookupReasons 1024 (b .positions) (d .position)) → number ≢ 0 → length sheet ≡ 4096
+  pub delivery-missing : (number : ℕ) (sheet : List ℕ) → number ≡ first (lookupReasons 1024 (b .positions) (d .position)) → number ≢ 0 → length sheet ≡ SHEET-CELLS
       → CalledOn b a (call (event.Delivery d) 1024) manner.Delivered sheet b a sheet (outcome.Refused number) 0
   delivery-missing number sheet e some long =
       refused-on b a (call (event.Delivery d) 1024) manner.Delivered sheet number h (missing-number (lookupReasons 1024 _ _) _ _ (delivery-split (keptOf b a) (h .valid) d 1024) number e some) some long
@@ -34,11 +35,11 @@ module _ (b : Core) (a : Numbers) (h : Held b a) (d : Delivery) where
     number-is =
         delivery-number (keptOf b a) (h .valid) d 1024 p reserved number there (row ∙ row-is b a h (d .position) (lookup-there 1024 (b .positions) (d .position) there)) units is
 
-    pub delivery-refused : (sheet : List ℕ) → number ≢ 0 → length sheet ≡ 4096 → CalledOn b a (call (event.Delivery d) 1024) manner.Delivered sheet b a sheet (outcome.Refused number) 0
+    pub delivery-refused : (sheet : List ℕ) → number ≢ 0 → length sheet ≡ SHEET-CELLS → CalledOn b a (call (event.Delivery d) 1024) manner.Delivered sheet b a sheet (outcome.Refused number) 0
     delivery-refused sheet some long = refused-on b a (call (event.Delivery d) 1024) manner.Delivered sheet number h number-is some long
 
     module _ (z : number ≡ 0) where
-      pub delivering : (sheet : List ℕ) → length sheet ≡ 4096 → Discharging (b .day .0) (a .rows) (b .positions) (a .counts) sheet (followedIn b a) (d .position) p (d .quantity) manner.Delivered
+      pub delivering : (sheet : List ℕ) → length sheet ≡ SHEET-CELLS → Discharging (b .day .0) (a .rows) (b .positions) (a .counts) sheet (followedIn b a) (d .position) p (d .quantity) manner.Delivered
       delivering sheet long =
           discharging b a h (d .position) (d .quantity) manner.Delivered (delivery-dealing (keptOf b a) (h .valid) d (record { valid = h .valid; taken = number-is ∙ z })) p sheet
           (delivery-taken (bookOf b a) d 1024 (number-is ∙ z) .some-units) row long

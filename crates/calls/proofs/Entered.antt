@@ -4,6 +4,7 @@ use mathlib.Core.Path.{_≡_, refl, ap, sym, _∙_, subst}
 use mathlib.Core.Logic.{_≢_}
 use mathlib.Core.List.{List}
 use lib.ListN.{length, set}
+use Rattle.laws.specs.Limits.{TRADE-CELLS}
 use Rattle.events.specs.declared.Trade.{Trade}
 use Rattle.events.specs.declared.Event.the-variants as event
 use Rattle.plain.specs.declared.Outcome.the-variants as outcome
@@ -30,7 +31,7 @@ module _ (b : Core) (others : Numbers) (trades : List ℕ) (t : Trade) (h : Held
   pub trade-refused : number ≢ 0 → CalledBare b a (call (event.Trade t) 0) b a (outcome.Refused number) 0
   trade-refused some = refused b a (call (event.Trade t) 0) number h number-is some
 
-  pub trade-taken : number ≡ 0 → (exit : List ℕ) → tradesOf exit ≡ set (tradesOf trades) (b .trades) t → length exit ≡ 3584 → CalledBare b a (call (event.Trade t) 0) (tradedCore b) (onTrades others exit) (outcome.Done (t .quantity)) 0
+  pub trade-taken : number ≡ 0 → (exit : List ℕ) → tradesOf exit ≡ set (tradesOf trades) (b .trades) t → length exit ≡ TRADE-CELLS → CalledBare b a (call (event.Trade t) 0) (tradedCore b) (onTrades others exit) (outcome.Done (t .quantity)) 0
   unfolding amount handsOut
   trade-taken z exit put long =
       let room : b .trades < 512 = trade-room (b .opening .register .count) (b .trades) t (sym e ∙ z) in

@@ -5,6 +5,7 @@ use mathlib.Core.Logic.{_≢_}
 use mathlib.Core.List.{List, []}
 use native.Mathlib.Omega.{arith}
 use lib.ListN.{length, take}
+use Rattle.laws.specs.Limits.{SHEET-CELLS}
 use Rattle.laws.specs.Refusals.{accepted-zero, accepted-not}
 use Rattle.plain.specs.declared.Piece.{Piece}
 use Rattle.plain.specs.declared.Manner.{Manner}
@@ -65,7 +66,7 @@ taken-called b a c after z q xs h e much given same fits lent =
 pub refused : (b : Core) (a : Numbers) (c : Call) (number : ℕ) → Held b a → refusal (bookOf b a) c ≡ number → number ≢ 0 → CalledBare b a c b a (outcome.Refused number) 0
 refused b a c number h e some = record { called = refused-called b a c number h e some; none = refl }
 
-pub refused-on : (b : Core) (a : Numbers) (c : Call) (m : Manner) (sheet : List ℕ) (number : ℕ) → Held b a → refusal (bookOf b a) c ≡ number → number ≢ 0 → length sheet ≡ 4096 → CalledOn b a c m sheet b a sheet (outcome.Refused number) 0
+pub refused-on : (b : Core) (a : Numbers) (c : Call) (m : Manner) (sheet : List ℕ) (number : ℕ) → Held b a → refusal (bookOf b a) c ≡ number → number ≢ 0 → length sheet ≡ SHEET-CELLS → CalledOn b a c m sheet b a sheet (outcome.Refused number) 0
 refused-on b a c m sheet number h e some long =
     record { called = refused-called b a c number h e some; places = long; few = omega arith; kept = λ n. refl }
 
@@ -78,7 +79,7 @@ taken b a c after z q h e much given same fits lent = record { called = taken-ca
 -- and one on a sheet, with so many pieces
 pub taken-on : (b : Core) (a : Numbers) (c : Call) (m : Manner) (sheet : List ℕ) (after : Core) (z : Numbers) (left : List ℕ) (q made : ℕ) → Held b a → refusal (bookOf b a) c ≡ 0
     → q ≡ amount (bookOf b a) (eventOf c) → take made (piecesOf m left) ≡ handsOut (bookOf b a) (eventOf c) → view (keptOf after z) ≡ done (bookOf b a) (eventOf c) → Fits (keptOf after z) → Lent after z
-    → length left ≡ 4096 → made ≤ 1024 → CalledOn b a c m sheet after z left (outcome.Done q) made
+    → length left ≡ SHEET-CELLS → made ≤ 1024 → CalledOn b a c m sheet after z left (outcome.Done q) made
 taken-on b a c m sheet after z left q made h e much given same fits lent long few =
     record {
       called = taken-called b a c after z q (take made (piecesOf m left)) h e much given same fits lent;

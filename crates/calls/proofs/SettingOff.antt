@@ -5,6 +5,7 @@ use mathlib.Core.Path.{_≡_, _∙_}
 use mathlib.Core.Logic.{_≢_}
 use mathlib.Core.List.{List, [], _∷_}
 use lib.ListN.{length}
+use Rattle.laws.specs.Limits.{SHEET-CELLS}
 use Rattle.events.specs.declared.PairOff.{PairOff}
 use Rattle.events.specs.declared.Event.the-variants as event
 use Rattle.plain.specs.declared.Position.{Position}
@@ -31,7 +32,7 @@ use Rattle.calls.proofs.Returns.{refused-on, taken-on}
 use Rattle.calls.proofs.Walking.{row-is, falling}
 
 module _ (b : Core) (a : Numbers) (h : Held b a) (x : PairOff) where
-  pub pair-off-missing : (number : ℕ) (sheet : List ℕ) → number ≡ first (bothLookupReasons 1024 (b .positions) (x .short) (x .long)) → number ≢ 0 → length sheet ≡ 4096
+  pub pair-off-missing : (number : ℕ) (sheet : List ℕ) → number ≡ first (bothLookupReasons 1024 (b .positions) (x .short) (x .long)) → number ≢ 0 → length sheet ≡ SHEET-CELLS
       → CalledOn b a (call (event.PairOff x) 1024) manner.Paired sheet b a sheet (outcome.Refused number) 0
   pair-off-missing number sheet e some long =
       refused-on b a (call (event.PairOff x) 1024) manner.Paired sheet number h (missing-number (bothLookupReasons 1024 _ _ _) _ _ (pair-off-split (keptOf b a) (h .valid) x 1024) number e some) some long
@@ -45,7 +46,7 @@ module _ (b : Core) (a : Numbers) (h : Held b a) (x : PairOff) where
     number-is =
         pair-off-number (keptOf b a) (h .valid) x 1024 p q reserved number there (own ∙ row-is b a h (x .short) (inside .0)) (other ∙ row-is b a h (x .long) (inside .1)) units is
 
-    pub pair-off-refused : (sheet : List ℕ) → number ≢ 0 → length sheet ≡ 4096 → CalledOn b a (call (event.PairOff x) 1024) manner.Paired sheet b a sheet (outcome.Refused number) 0
+    pub pair-off-refused : (sheet : List ℕ) → number ≢ 0 → length sheet ≡ SHEET-CELLS → CalledOn b a (call (event.PairOff x) 1024) manner.Paired sheet b a sheet (outcome.Refused number) 0
     pair-off-refused sheet some long = refused-on b a (call (event.PairOff x) 1024) manner.Paired sheet number h number-is some long
 
     module _ (z : number ≡ 0) where
@@ -57,7 +58,7 @@ module _ (b : Core) (a : Numbers) (h : Held b a) (x : PairOff) where
       unfolding view
       row-lowerable n w v enough = rw (row-is b a h n w) (lowerable (keptOf b a) (h .valid) n (x .quantity) v enough)
 
-      setting : (sheet : List ℕ) → length sheet ≡ 4096 → SettingOff (a .rows) sheet (x .short) (x .long) (x .quantity)
+      setting : (sheet : List ℕ) → length sheet ≡ SHEET-CELLS → SettingOff (a .rows) sheet (x .short) (x .long) (x .quantity)
       setting sheet long =
           let few : b .positions ≤ 1024 = h .valid .fits .positions .held in
           record {
@@ -70,7 +71,7 @@ module _ (b : Core) (a : Numbers) (h : Held b a) (x : PairOff) where
             sheet-length = long;
           }
 
-      pub pairing : (sheet : List ℕ) → length sheet ≡ 4096 → PairingOff (b .day .0) (a .rows) (b .positions) (a .counts) sheet (followedIn b a) p x
+      pub pairing : (sheet : List ℕ) → length sheet ≡ SHEET-CELLS → PairingOff (b .day .0) (a .rows) (b .positions) (a .counts) sheet (followedIn b a) p x
       pairing sheet long =
           record {
             setting = setting sheet long;

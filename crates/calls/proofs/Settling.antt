@@ -6,6 +6,7 @@ use mathlib.Core.Path.{_≡_, refl, ap, sym, _∙_}
 use mathlib.Core.Logic.{_≢_}
 use mathlib.Core.List.{List, [], _∷_, _++_, map}
 use lib.ListN.{length, take, getD, length-map}
+use Rattle.laws.specs.Limits.{SHEET-CELLS}
 use Rattle.laws.specs.Lists.{All, each, number}
 use Rattle.laws.specs.Alls.{all-of, all-number}
 use Rattle.rules.specs.Windows.{stepOn}
@@ -81,7 +82,7 @@ module _ (price : ℕ) (p q : Positions) (members : (k : ℕ) → nth noPosition
 
 -- the refusals
 module _ (b : Core) (a : Numbers) (h : Held b a) (c : Cash) where
-  pub cash-missing : (number : ℕ) (sheet : List ℕ) → number ≡ first (lookupReasons 1024 (b .positions) (c .position)) → number ≢ 0 → length sheet ≡ 4096
+  pub cash-missing : (number : ℕ) (sheet : List ℕ) → number ≡ first (lookupReasons 1024 (b .positions) (c .position)) → number ≢ 0 → length sheet ≡ SHEET-CELLS
       → CalledOn b a (call (event.Cash c) 1024) manner.Cash sheet b a sheet (outcome.Refused number) 0
   cash-missing number sheet e some long =
       refused-on b a (call (event.Cash c) 1024) manner.Cash sheet number h (missing-number (lookupReasons 1024 _ _) _ _ (cash-split (keptOf b a) (h .valid) c 1024) number e some) some long
@@ -93,7 +94,7 @@ module _ (b : Core) (a : Numbers) (h : Held b a) (c : Cash) where
     number-is =
         cash-number (keptOf b a) (h .valid) c 1024 p class latest today number there (own ∙ row-is b a h (c .position) (lookup-there 1024 (b .positions) (c .position) there)) classed looked step is
 
-    pub cash-refused : (sheet : List ℕ) → number ≢ 0 → length sheet ≡ 4096 → CalledOn b a (call (event.Cash c) 1024) manner.Cash sheet b a sheet (outcome.Refused number) 0
+    pub cash-refused : (sheet : List ℕ) → number ≢ 0 → length sheet ≡ SHEET-CELLS → CalledOn b a (call (event.Cash c) 1024) manner.Cash sheet b a sheet (outcome.Refused number) 0
     cash-refused sheet some long = refused-on b a (call (event.Cash c) 1024) manner.Cash sheet number h number-is some long
 
     pub cash-accepted : number ≡ 0 → Taken b a (call (event.Cash c) 1024)
@@ -122,7 +123,7 @@ module _ (b : Core) (a : Numbers) (c : Cash) (t : Taken b a (call (event.Cash c)
   by : Terms (bookOf b a) (c .position) (p .unsettled) class latest
   by = cash-terms (keptOf b a) v c p class latest own (terms .classed) (terms .priced)
 
-  pub settling : (sheet : List ℕ) → length sheet ≡ 4096 → Discharging (b .day .0) (a .rows) (b .positions) (a .counts) sheet (followedIn b a) (c .position) p (p .unsettled) manner.Cash
+  pub settling : (sheet : List ℕ) → length sheet ≡ SHEET-CELLS → Discharging (b .day .0) (a .rows) (b .positions) (a .counts) sheet (followedIn b a) (c .position) p (p .unsettled) manner.Cash
   settling sheet long =
       discharging b a (t .held) (c .position) (p .unsettled) manner.Cash (cash-dealing (keptOf b a) v c able (p .unsettled) class latest by) p sheet
       (λ e. cash-taken (bookOf b a) c 1024 (t .accepted) .unsettled (sym (by .unsettled) ∙ e)) (terms .own) long
@@ -197,7 +198,7 @@ module _ (b : Core) (a : Numbers) (c : Cash) (t : Taken b a (call (event.Cash c)
         }
 
     pub cash-done : (sheet left : List ℕ) (l : Ledger) → Priced dealt-pieces price (pieceTable manner.Cash left made)
-        → l ≡ posted (a .ledger) (settlementOf class latest p left-table dealt-pieces) → length left ≡ 4096
+        → l ≡ posted (a .ledger) (settlementOf class latest p left-table dealt-pieces) → length left ≡ SHEET-CELLS
         → CalledOn b a (call (event.Cash c) 1024) manner.Cash sheet b (numbers zs (a .trades) (a .awards) cs ss ws l) left (outcome.Done (p .unsettled)) made
     unfolding table.pieces
     cash-done sheet left l g posts long =

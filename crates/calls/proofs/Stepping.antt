@@ -5,7 +5,7 @@ use mathlib.Core.Path.{_≡_, refl, ap, sym, _∙_, subst}
 use mathlib.Core.List.{List, []}
 use mathlib.Core.Bool.{true, false, true≢false}
 use lib.ListN.{length}
-use Rattle.laws.specs.Limits.{PLACES}
+use Rattle.laws.specs.Limits.{PLACES, SHEET-CELLS}
 use Rattle.laws.specs.Refusals.{accepted}
 use Rattle.events.specs.declared.Event.{Event}
 use Rattle.events.specs.declared.Event.the-variants as event
@@ -53,7 +53,7 @@ module _ (b : Kept) (e : Event) (m n : ℕ) (same : refusal (view b) (call e m) 
 
 -- an event that is no discharge, whose call has no sheet: a sheet that is lent beside it stays as it is
 pub bare-on : (b : Core) (a : Numbers) (e : Event) (m : Manner) (sheet : List ℕ) (after : Core) (z : Numbers) (o : Outcome) (n : ℕ)
-    → isDischarge e ≡ false → length sheet ≡ 4096 → CalledBare b a (call e 0) after z o n → CalledOn b a (call e PLACES) m sheet after z sheet o n
+    → isDischarge e ≡ false → length sheet ≡ SHEET-CELLS → CalledBare b a (call e 0) after z o n → CalledOn b a (call e PLACES) m sheet after z sheet o n
 bare-on b a e m sheet after z o n none long d =
     let same : refusal (bookOf b a) (call e 0) ≡ refusal (bookOf b a) (call e PLACES) = any-sheet (bookOf b a) e 0 PLACES none in
     record {
@@ -74,5 +74,5 @@ module _ (b : Core) (a : Numbers) (x : Event) (after : Core) (z : Numbers) (left
   pub stepped-on : (sheet : List ℕ) → Stepped b a e sheet after z left o n → Stepped b a x sheet after z left o n
   stepped-on sheet = subst (λ (y : Event). Stepped b a y sheet after z left o n) (sym is)
 
-  pub stepped-bare : isDischarge e ≡ false → length left ≡ 4096 → CalledBare b a (call e 0) after z o n → Stepped b a x left after z left o n
+  pub stepped-bare : isDischarge e ≡ false → length left ≡ SHEET-CELLS → CalledBare b a (call e 0) after z o n → Stepped b a x left after z left o n
   stepped-bare none long d = stepped-on left (bare-on b a e (mannerOf e) left after z o n none long d)

@@ -6,6 +6,7 @@ use mathlib.Core.Bool.{true}
 use mathlib.Core.Logic.{_≢_}
 use mathlib.Core.List.{List}
 use lib.ListN.{length, set}
+use Rattle.laws.specs.Limits.{SHEET-CELLS}
 use Rattle.plain.specs.declared.Position.{Position}
 use Rattle.plain.specs.declared.Piece.{Piece}
 use Rattle.plain.specs.declared.Manner.{Manner}
@@ -80,7 +81,7 @@ module _ (b : Core) (a : Numbers) (h : Held b a) where
     unfolding view dealt
     dealt-of = deals (bookOf b a) m n q (h .valid .sound .settled .even) dealable
 
-    pub discharging : (p : Position) (sheet : List ℕ) → q ≢ 0 → p ≡ rowOf (a .rows) n → length sheet ≡ 4096
+    pub discharging : (p : Position) (sheet : List ℕ) → q ≢ 0 → p ≡ rowOf (a .rows) n → length sheet ≡ SHEET-CELLS
         → Discharging (b .day .0) (a .rows) (b .positions) (a .counts) sheet (followedIn b a) n p q m
     discharging p sheet some e long =
         record { dealing = d; falling = falling n q m _ dealt-of p some e; rows-length = h .lent .rows; sheet-length = long }

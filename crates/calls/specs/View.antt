@@ -4,7 +4,7 @@ use mathlib.Core.Path.{_≡_}
 use mathlib.Core.Logic.{_≢_}
 use mathlib.Core.List.{List, [], _∷_}
 use lib.ListN.{length, take, replicate}
-use Rattle.laws.specs.Limits.{ACCOUNTS, MEMBERS, PLACES, SECURITIES}
+use Rattle.laws.specs.Limits.{ACCOUNTS, AWARD-CELLS, COUNT-CELLS, MEMBERS, PLACES, POSITION-CELLS, SECURITIES, SHEET-CELLS, TRADE-CELLS}
 use Rattle.events.specs.declared.PairOff.{PairOff}
 use Rattle.plain.specs.declared.Piece.{Piece}
 use Rattle.plain.specs.declared.Position.{Position}
@@ -108,9 +108,9 @@ pub record Follows (day : ℕ) (rows : List ℕ) (count : ℕ) (counts : List �
 
 -- the numbers have their places, and what the core follows is true of them
 pub record Lent (b : Core) (a : Numbers) : Type 0 where
-  pub rows : length (a .rows) ≡ 12288
-  pub trades : length (a .trades) ≡ 3584
-  pub awards : length (a .awards) ≡ 1280
+  pub rows : length (a .rows) ≡ POSITION-CELLS
+  pub trades : length (a .trades) ≡ TRADE-CELLS
+  pub awards : length (a .awards) ≡ AWARD-CELLS
   pub follows : Follows (b .day .0) (a .rows) (b .positions) (a .counts) (followedIn b a)
 
 -- what holds of every core with its numbers that opening or a call leaves. A core's fields are private, so that no other code makes one; numbers that
@@ -141,7 +141,7 @@ pub record CalledBare (b : Core) (a : Numbers) (c : Call) (after : Core) (z : Nu
 -- a call that hands out n pieces in a manner on a lent sheet, of numbers too: a refused call leaves the sheet as it was
 pub record CalledOn (b : Core) (a : Numbers) (c : Call) (m : Manner) (sheet : List ℕ) (after : Core) (z : Numbers) (left : List ℕ) (o : Outcome) (n : ℕ) : Type 0 where
   pub called : Called b a c after z o (take n (piecesOf m left))
-  pub places : length left ≡ 4096
+  pub places : length left ≡ SHEET-CELLS
   pub few : n ≤ PLACES
   pub kept : refusal (bookOf b a) c ≢ 0 → left ≡ sheet
 
@@ -159,15 +159,15 @@ pub record Falling (day : ℕ) (rows : List ℕ) (count : ℕ) (counts : List �
 pub record DischargedBy (day : ℕ) (rows : List ℕ) (count : ℕ) (xs : List Piece) (m : Manner) (after counts sheet : List ℕ) (f : Followed) (made : ℕ) : Type 0 where
   pub dealt : HandedOut (positionTable rows count) xs (record { positions = positionTable after count; pieces = pieceTable m sheet made })
   pub follows : Follows day after count counts f
-  pub rows-length : length after ≡ 12288
-  pub sheet-length : length sheet ≡ 4096
+  pub rows-length : length after ≡ POSITION-CELLS
+  pub sheet-length : length sheet ≡ SHEET-CELLS
 
 -- the same of a discharge that is dealt out
 pub record Discharging (day : ℕ) (rows : List ℕ) (count : ℕ) (counts sheet : List ℕ) (f : Followed) (n : ℕ) (p : Position) (q : ℕ) (m : Manner) : Type 0 where
   pub dealing : Dealing (positionTable rows count) day n q
   pub falling : Falling day rows count counts f n p q m (dealtOut (positionTable rows count) day n q m)
-  pub rows-length : length rows ≡ 12288
-  pub sheet-length : length sheet ≡ 4096
+  pub rows-length : length rows ≡ POSITION-CELLS
+  pub sheet-length : length sheet ≡ SHEET-CELLS
 
 abbrev pub Discharged : ℕ → List ℕ → ℕ → ℕ → ℕ → Manner → List ℕ → List ℕ → List ℕ → Followed → ℕ → Type 0
 Discharged day rows count n q m after counts sheet f made =
@@ -194,10 +194,10 @@ pub record CashTerms (b : Core) (rows : List ℕ) (n : ℕ) (p : Position) (clas
 
 -- the numbers that are lent with a new book: no short is late, no walk was made, no account has a cent, and the tables have their places
 pub record Blank (a : Numbers) : Type 0 where
-  pub rows : length (a .rows) ≡ 12288
-  pub trades : length (a .trades) ≡ 3584
-  pub awards : length (a .awards) ≡ 1280
-  pub counts : a .counts ≡ replicate 2048 0
+  pub rows : length (a .rows) ≡ POSITION-CELLS
+  pub trades : length (a .trades) ≡ TRADE-CELLS
+  pub awards : length (a .awards) ≡ AWARD-CELLS
+  pub counts : a .counts ≡ replicate COUNT-CELLS 0
   pub starts : a .starts ≡ replicate SECURITIES 0
   pub words : a .words ≡ replicate SECURITIES 0
   pub ledger : (a .ledger .credits ≡ replicate ACCOUNTS 0) × (a .ledger .debits ≡ replicate ACCOUNTS 0)

@@ -17,6 +17,8 @@ use crate::price_of;
 use crate::refused;
 use events::Attempt;
 use events::Offer;
+use laws::AWARD_CELLS;
+use laws::POSITION_CELLS;
 use laws::SECURITIES;
 use refusals::NOT_THERE;
 
@@ -39,7 +41,7 @@ fn open_auction(core: Core, position: u16, ceiling: u64) -> Core
     after
 }
 
-pub fn attempt(core: Core, rows: &[u32; 12288], a: Attempt) -> Answered
+pub fn attempt(core: Core, rows: &[u32; POSITION_CELLS], a: Attempt) -> Answered
     requires { ⌜ ((others : Numbers) × Held core (onRows others (now rows))) ⌝ }
     ensures { λ r. ⌜ ((others : Numbers) → Held core (onRows others (now (rows .entry))) → CalledBare core (onRows others (now (rows .entry))) (call (event.Attempt a) 0) (r .core) (onRows others (now (rows .entry))) (r .outcome) (r .pieces)) ⌝ }
 {
@@ -70,7 +72,12 @@ pub fn attempt(core: Core, rows: &[u32; 12288], a: Attempt) -> Answered
 }
 
 // The offerer is tested against the word of the security that is auctioned.
-pub fn offer(core: Core, rows: &[u32; 12288], words: &[u64; SECURITIES], o: Offer) -> Answered
+pub fn offer(
+    core: Core,
+    rows: &[u32; POSITION_CELLS],
+    words: &[u64; SECURITIES],
+    o: Offer,
+) -> Answered
     requires { ⌜ ((others : Numbers) × Held core (onWords (onRows others (now rows)) (now words))) ⌝ }
     ensures { λ r. ⌜ ((others : Numbers) → Held core (onWords (onRows others (now (rows .entry))) (now (words .entry))) → CalledBare core (onWords (onRows others (now (rows .entry))) (now (words .entry))) (call (event.Offer o) 0) (r .core) (onWords (onRows others (now (rows .entry))) (now (words .entry))) (r .outcome) (r .pieces)) ⌝ }
 {
@@ -103,8 +110,8 @@ pub fn offer(core: Core, rows: &[u32; 12288], words: &[u64; SECURITIES], o: Offe
 // The auction ends in awards. Its offers' cells stay as they are, past the count.
 pub fn award(
     core: Core,
-    rows: &[u32; 12288],
-    awards: &mut [u32; 1280],
+    rows: &[u32; POSITION_CELLS],
+    awards: &mut [u32; AWARD_CELLS],
     a: events::Award,
 ) -> Answered
     requires { ⌜ ((others : Numbers) × Held core (onAwards (onRows others (now rows)) (now awards))) ⌝ }

@@ -16,14 +16,18 @@ use crate::Core;
 use crate::done;
 use crate::refused;
 use laws::ACCOUNTS;
+use laws::AWARD_CELLS;
 use laws::BusinessDay;
+use laws::COUNT_CELLS;
+use laws::POSITION_CELLS;
 use laws::SECURITIES;
+use laws::TRADE_CELLS;
 
 // The accounts with the charges of a close, which go by the positions and awards as they are.
 fn fined(
     core: Core,
-    rows: &[u32; 12288],
-    awards: &[u32; 1280],
+    rows: &[u32; POSITION_CELLS],
+    awards: &[u32; AWARD_CELLS],
     credits: &mut [u64; ACCOUNTS],
     debits: &mut [u64; ACCOUNTS],
 )
@@ -63,10 +67,10 @@ fn next_day(core: Core, late: usize, positions: usize) -> Core
 // The day ends: its charges are posted, the shorts that were due on it become late, and its trades are netted.
 pub fn close(
     core: Core,
-    rows: &mut [u32; 12288],
-    trades: &[u32; 3584],
-    awards: &[u32; 1280],
-    counts: &mut [u32; 2048],
+    rows: &mut [u32; POSITION_CELLS],
+    trades: &[u32; TRADE_CELLS],
+    awards: &[u32; AWARD_CELLS],
+    counts: &mut [u32; COUNT_CELLS],
     words: &mut [u64; SECURITIES],
     credits: &mut [u64; ACCOUNTS],
     debits: &mut [u64; ACCOUNTS],

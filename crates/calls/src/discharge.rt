@@ -3,7 +3,7 @@ ghost use Prim.Native.Nat.{ℕ, _-_};
 ghost use mathlib.Core.Path.{_≡_};
 ghost use mathlib.Core.List.{List};
 ghost use lib.ListN.{length, getD};
-ghost use Rattle.laws.specs.Limits.{PLACES, SECURITIES};
+ghost use Rattle.laws.specs.Limits.{PLACES, SECURITIES, SHEET-CELLS};
 ghost use Rattle.events.specs.declared.Event.the-variants as event;
 ghost use Rattle.plain.specs.declared.Manner.the-variants as manner;
 ghost use Rattle.plain.specs.Book.{nth, noAward};
@@ -24,9 +24,13 @@ use events::Cash;
 use events::Confirm;
 use events::Delivery;
 use laws::ACCOUNTS;
+use laws::AWARD_CELLS;
 use laws::BusinessDay;
+use laws::COUNT_CELLS;
 use laws::PLACES;
+use laws::POSITION_CELLS;
 use laws::SECURITIES;
+use laws::SHEET_CELLS;
 use plain::Award;
 use plain::Manner;
 use plain::Position;
@@ -42,11 +46,11 @@ fn start_of(starts: &[usize; SECURITIES], security: u16) -> usize
 // A discharge of the short `p`, given as its row has it, dealt out. The walk starts where the first open long of the security may be, and the next one
 // starts where it ended. The answer is the number of pieces.
 fn discharge(
-    rows: &mut [u32; 12288],
-    counts: &mut [u32; 2048],
+    rows: &mut [u32; POSITION_CELLS],
+    counts: &mut [u32; COUNT_CELLS],
     starts: &mut [usize; SECURITIES],
     words: &mut [u64; SECURITIES],
-    sheet: &mut [u64; 4096],
+    sheet: &mut [u64; SHEET_CELLS],
     held: usize,
     day: BusinessDay,
     position: u16,
@@ -67,15 +71,15 @@ fn discharge(
 
 pub fn delivery(
     core: Core,
-    rows: &mut [u32; 12288],
-    awards: &[u32; 1280],
-    counts: &mut [u32; 2048],
+    rows: &mut [u32; POSITION_CELLS],
+    awards: &[u32; AWARD_CELLS],
+    counts: &mut [u32; COUNT_CELLS],
     starts: &mut [usize; SECURITIES],
     words: &mut [u64; SECURITIES],
-    sheet: &mut [u64; 4096],
+    sheet: &mut [u64; SHEET_CELLS],
     d: Delivery,
 ) -> Answered
-    requires { ⌜ ((trades : List ℕ) × (accounts : Ledger) × Held core (numbers (now rows) trades (now awards) (now counts) (now starts) (now words) accounts)) × (length (now sheet) ≡ 4096) ⌝ }
+    requires { ⌜ ((trades : List ℕ) × (accounts : Ledger) × Held core (numbers (now rows) trades (now awards) (now counts) (now starts) (now words) accounts)) × (length (now sheet) ≡ SHEET-CELLS) ⌝ }
     ensures { λ r. ⌜ ((trades : List ℕ) (accounts : Ledger) → Held core (numbers (now (rows .entry)) trades (now (awards .entry)) (now (counts .entry)) (now (starts .entry)) (now (words .entry)) accounts) → CalledOn core (numbers (now (rows .entry)) trades (now (awards .entry)) (now (counts .entry)) (now (starts .entry)) (now (words .entry)) accounts) (call (event.Delivery d) PLACES) manner.Delivered (now (sheet .entry)) (r .core) (numbers (now (rows .exit)) trades (now (awards .entry)) (now (counts .exit)) (now (starts .exit)) (now (words .exit)) accounts) (now (sheet .exit)) (r .outcome) (r .pieces)) ⌝ }
 {
     let missing = refusals::lookup_refusal(PLACES, core.positions, d.position);
@@ -108,18 +112,18 @@ pub fn delivery(
 // The award's units are bought in, charged to the short's member, and the award is marked.
 fn buy_in(
     core: Core,
-    rows: &mut [u32; 12288],
-    awards: &mut [u32; 1280],
-    counts: &mut [u32; 2048],
+    rows: &mut [u32; POSITION_CELLS],
+    awards: &mut [u32; AWARD_CELLS],
+    counts: &mut [u32; COUNT_CELLS],
     starts: &mut [usize; SECURITIES],
     words: &mut [u64; SECURITIES],
     credits: &mut [u64; ACCOUNTS],
     debits: &mut [u64; ACCOUNTS],
-    sheet: &mut [u64; 4096],
+    sheet: &mut [u64; SHEET_CELLS],
     c: Confirm,
     award: Award,
 ) -> Answered
-    requires { ⌜ ((trades : List ℕ) × Taken core (numbers (now rows) trades (now awards) (now counts) (now starts) (now words) (ledgerOf (now credits) (now debits))) (call (event.Confirm c) PLACES)) × (award ≡ getD (awardsOf (now awards)) (c .award - 1) noAward) × (length (now sheet) ≡ 4096) ⌝ }
+    requires { ⌜ ((trades : List ℕ) × Taken core (numbers (now rows) trades (now awards) (now counts) (now starts) (now words) (ledgerOf (now credits) (now debits))) (call (event.Confirm c) PLACES)) × (award ≡ getD (awardsOf (now awards)) (c .award - 1) noAward) × (length (now sheet) ≡ SHEET-CELLS) ⌝ }
     ensures { λ r. ⌜ ((trades : List ℕ) → Taken core (numbers (now (rows .entry)) trades (now (awards .entry)) (now (counts .entry)) (now (starts .entry)) (now (words .entry)) (ledgerOf (now (credits .entry)) (now (debits .entry)))) (call (event.Confirm c) PLACES) → CalledOn core (numbers (now (rows .entry)) trades (now (awards .entry)) (now (counts .entry)) (now (starts .entry)) (now (words .entry)) (ledgerOf (now (credits .entry)) (now (debits .entry)))) (call (event.Confirm c) PLACES) manner.BoughtIn (now (sheet .entry)) (r .core) (numbers (now (rows .exit)) trades (now (awards .exit)) (now (counts .exit)) (now (starts .exit)) (now (words .exit)) (ledgerOf (now (credits .exit)) (now (debits .exit)))) (now (sheet .exit)) (r .outcome) (r .pieces)) ⌝ }
 {
     let place = (award.position - 1) as usize;
@@ -151,17 +155,17 @@ fn buy_in(
 
 pub fn confirm(
     core: Core,
-    rows: &mut [u32; 12288],
-    awards: &mut [u32; 1280],
-    counts: &mut [u32; 2048],
+    rows: &mut [u32; POSITION_CELLS],
+    awards: &mut [u32; AWARD_CELLS],
+    counts: &mut [u32; COUNT_CELLS],
     starts: &mut [usize; SECURITIES],
     words: &mut [u64; SECURITIES],
     credits: &mut [u64; ACCOUNTS],
     debits: &mut [u64; ACCOUNTS],
-    sheet: &mut [u64; 4096],
+    sheet: &mut [u64; SHEET_CELLS],
     c: Confirm,
 ) -> Answered
-    requires { ⌜ ((trades : List ℕ) × Held core (numbers (now rows) trades (now awards) (now counts) (now starts) (now words) (ledgerOf (now credits) (now debits)))) × (length (now sheet) ≡ 4096) ⌝ }
+    requires { ⌜ ((trades : List ℕ) × Held core (numbers (now rows) trades (now awards) (now counts) (now starts) (now words) (ledgerOf (now credits) (now debits)))) × (length (now sheet) ≡ SHEET-CELLS) ⌝ }
     ensures { λ r. ⌜ ((trades : List ℕ) → Held core (numbers (now (rows .entry)) trades (now (awards .entry)) (now (counts .entry)) (now (starts .entry)) (now (words .entry)) (ledgerOf (now (credits .entry)) (now (debits .entry)))) → CalledOn core (numbers (now (rows .entry)) trades (now (awards .entry)) (now (counts .entry)) (now (starts .entry)) (now (words .entry)) (ledgerOf (now (credits .entry)) (now (debits .entry)))) (call (event.Confirm c) PLACES) manner.BoughtIn (now (sheet .entry)) (r .core) (numbers (now (rows .exit)) trades (now (awards .exit)) (now (counts .exit)) (now (starts .exit)) (now (words .exit)) (ledgerOf (now (credits .exit)) (now (debits .exit)))) (now (sheet .exit)) (r .outcome) (r .pieces)) ⌝ }
 {
     let missing = refusals::lookup_refusal(PLACES, core.awards, c.award);
@@ -192,19 +196,19 @@ pub fn confirm(
 // All that is open of the short `p` is settled: dealt out, then priced and paid for on the sheet, with the fee.
 fn settle(
     core: Core,
-    rows: &mut [u32; 12288],
-    counts: &mut [u32; 2048],
+    rows: &mut [u32; POSITION_CELLS],
+    counts: &mut [u32; COUNT_CELLS],
     starts: &mut [usize; SECURITIES],
     words: &mut [u64; SECURITIES],
     credits: &mut [u64; ACCOUNTS],
     debits: &mut [u64; ACCOUNTS],
-    sheet: &mut [u64; 4096],
+    sheet: &mut [u64; SHEET_CELLS],
     c: Cash,
     p: Position,
     class: u8,
     latest: u32,
 ) -> Answered
-    requires { ⌜ ((trades awards : List ℕ) × Taken core (numbers (now rows) trades awards (now counts) (now starts) (now words) (ledgerOf (now credits) (now debits))) (call (event.Cash c) PLACES)) × (CashTerms core (now rows) (c .position) p class latest) × (length (now sheet) ≡ 4096) ⌝ }
+    requires { ⌜ ((trades awards : List ℕ) × Taken core (numbers (now rows) trades awards (now counts) (now starts) (now words) (ledgerOf (now credits) (now debits))) (call (event.Cash c) PLACES)) × (CashTerms core (now rows) (c .position) p class latest) × (length (now sheet) ≡ SHEET-CELLS) ⌝ }
     ensures { λ r. ⌜ ((trades awards : List ℕ) → Taken core (numbers (now (rows .entry)) trades awards (now (counts .entry)) (now (starts .entry)) (now (words .entry)) (ledgerOf (now (credits .entry)) (now (debits .entry)))) (call (event.Cash c) PLACES) → CalledOn core (numbers (now (rows .entry)) trades awards (now (counts .entry)) (now (starts .entry)) (now (words .entry)) (ledgerOf (now (credits .entry)) (now (debits .entry)))) (call (event.Cash c) PLACES) manner.Cash (now (sheet .entry)) (r .core) (numbers (now (rows .exit)) trades awards (now (counts .exit)) (now (starts .exit)) (now (words .exit)) (ledgerOf (now (credits .exit)) (now (debits .exit)))) (now (sheet .exit)) (r .outcome) (r .pieces)) ⌝ }
 {
     let made = discharge(
@@ -227,16 +231,16 @@ fn settle(
 
 pub fn cash(
     core: Core,
-    rows: &mut [u32; 12288],
-    counts: &mut [u32; 2048],
+    rows: &mut [u32; POSITION_CELLS],
+    counts: &mut [u32; COUNT_CELLS],
     starts: &mut [usize; SECURITIES],
     words: &mut [u64; SECURITIES],
     credits: &mut [u64; ACCOUNTS],
     debits: &mut [u64; ACCOUNTS],
-    sheet: &mut [u64; 4096],
+    sheet: &mut [u64; SHEET_CELLS],
     c: Cash,
 ) -> Answered
-    requires { ⌜ ((trades awards : List ℕ) × Held core (numbers (now rows) trades awards (now counts) (now starts) (now words) (ledgerOf (now credits) (now debits)))) × (length (now sheet) ≡ 4096) ⌝ }
+    requires { ⌜ ((trades awards : List ℕ) × Held core (numbers (now rows) trades awards (now counts) (now starts) (now words) (ledgerOf (now credits) (now debits)))) × (length (now sheet) ≡ SHEET-CELLS) ⌝ }
     ensures { λ r. ⌜ ((trades awards : List ℕ) → Held core (numbers (now (rows .entry)) trades awards (now (counts .entry)) (now (starts .entry)) (now (words .entry)) (ledgerOf (now (credits .entry)) (now (debits .entry)))) → CalledOn core (numbers (now (rows .entry)) trades awards (now (counts .entry)) (now (starts .entry)) (now (words .entry)) (ledgerOf (now (credits .entry)) (now (debits .entry)))) (call (event.Cash c) PLACES) manner.Cash (now (sheet .entry)) (r .core) (numbers (now (rows .exit)) trades awards (now (counts .exit)) (now (starts .exit)) (now (words .exit)) (ledgerOf (now (credits .exit)) (now (debits .exit)))) (now (sheet .exit)) (r .outcome) (r .pieces)) ⌝ }
 {
     let missing = refusals::lookup_refusal(PLACES, core.positions, c.position);

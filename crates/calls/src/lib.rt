@@ -39,7 +39,7 @@ pub use trading::trade;
 ghost use Prim.Native.Nat.{_≤_};
 ghost use mathlib.Core.Path.{_≡_};
 ghost use lib.ListN.{length};
-ghost use Rattle.laws.specs.Limits.{SECURITIES};
+ghost use Rattle.laws.specs.Limits.{SECURITIES, SHEET-CELLS};
 ghost use Rattle.laws.specs.Asked.{Within};
 ghost use Rattle.register.specs.Accepted.{Registered};
 ghost use Rattle.plain.specs.declared.Outcome.the-variants as outcome;
@@ -50,8 +50,13 @@ ghost use Rattle.ledger.specs.Posts.{ledgerOf};
 ghost use Rattle.calls.specs.View.{numbers, Held};
 use events::Event;
 use laws::ACCOUNTS;
+use laws::AWARD_CELLS;
 use laws::BusinessDay;
+use laws::COUNT_CELLS;
+use laws::POSITION_CELLS;
 use laws::SECURITIES;
+use laws::SHEET_CELLS;
+use laws::TRADE_CELLS;
 use plain::Award;
 use plain::Latest;
 use plain::LatestPrice;
@@ -172,18 +177,18 @@ fn price_of(latest: LatestPrice) -> u32
 // One event, by the call of its kind, on all tables and a sheet.
 pub fn step(
     core: Core,
-    rows: &mut [u32; 12288],
-    trades: &mut [u32; 3584],
-    awards: &mut [u32; 1280],
-    counts: &mut [u32; 2048],
+    rows: &mut [u32; POSITION_CELLS],
+    trades: &mut [u32; TRADE_CELLS],
+    awards: &mut [u32; AWARD_CELLS],
+    counts: &mut [u32; COUNT_CELLS],
     starts: &mut [usize; SECURITIES],
     words: &mut [u64; SECURITIES],
     credits: &mut [u64; ACCOUNTS],
     debits: &mut [u64; ACCOUNTS],
-    sheet: &mut [u64; 4096],
+    sheet: &mut [u64; SHEET_CELLS],
     e: Event,
 ) -> Answered
-    requires { ⌜ (Held core (numbers (now rows) (now trades) (now awards) (now counts) (now starts) (now words) (ledgerOf (now credits) (now debits)))) × (length (now sheet) ≡ 4096) ⌝ }
+    requires { ⌜ (Held core (numbers (now rows) (now trades) (now awards) (now counts) (now starts) (now words) (ledgerOf (now credits) (now debits)))) × (length (now sheet) ≡ SHEET-CELLS) ⌝ }
     ensures { λ r. ⌜ Stepped core (numbers (now (rows .entry)) (now (trades .entry)) (now (awards .entry)) (now (counts .entry)) (now (starts .entry)) (now (words .entry)) (ledgerOf (now (credits .entry)) (now (debits .entry)))) e (now (sheet .entry)) (r .core) (numbers (now (rows .exit)) (now (trades .exit)) (now (awards .exit)) (now (counts .exit)) (now (starts .exit)) (now (words .exit)) (ledgerOf (now (credits .exit)) (now (debits .exit)))) (now (sheet .exit)) (r .outcome) (r .pieces) ⌝ }
 {
     match e {

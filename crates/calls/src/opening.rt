@@ -1,7 +1,7 @@
 // A new book: its core, and the tables that are lent with it.
 ghost use mathlib.Core.Path.{_≡_};
 ghost use lib.ListN.{length, replicate};
-ghost use Rattle.laws.specs.Limits.{ACCOUNTS, ATTEMPTS, OFFERS, SECURITIES};
+ghost use Rattle.laws.specs.Limits.{ACCOUNTS, ATTEMPTS, AWARD-CELLS, COUNT-CELLS, OFFERS, POSITION-CELLS, SECURITIES, TRADE-CELLS};
 ghost use Rattle.register.specs.Accepted.{Registered};
 ghost use Rattle.plain.specs.Book.{noPrice, new};
 ghost use Rattle.tables.specs.Tables.{prices};
@@ -12,9 +12,13 @@ use crate::Opened;
 use events::Offer;
 use laws::ACCOUNTS;
 use laws::ATTEMPTS;
+use laws::AWARD_CELLS;
 use laws::BusinessDay;
+use laws::COUNT_CELLS;
 use laws::OFFERS;
+use laws::POSITION_CELLS;
 use laws::SECURITIES;
+use laws::TRADE_CELLS;
 use plain::Opening;
 use tables::Auction;
 use tables::Marks;
@@ -78,28 +82,28 @@ pub fn new_core(opening: Opening) -> Core
 }
 
 // What is lent with a new book. Of the tables only the counts have to be 0.
-pub fn blank_rows() -> [u32; 12288]
-    ensures { λ r. ⌜ (r ≡ replicate 12288 0) × (length r ≡ 12288) ⌝ }
+pub fn blank_rows() -> [u32; POSITION_CELLS]
+    ensures { λ r. ⌜ (r ≡ replicate POSITION-CELLS 0) × (length r ≡ POSITION-CELLS) ⌝ }
 {
-    [0u32; 12288]
+    [0u32; POSITION_CELLS]
 }
 
-pub fn blank_trades() -> [u32; 3584]
-    ensures { λ r. ⌜ (r ≡ replicate 3584 0) × (length r ≡ 3584) ⌝ }
+pub fn blank_trades() -> [u32; TRADE_CELLS]
+    ensures { λ r. ⌜ (r ≡ replicate TRADE-CELLS 0) × (length r ≡ TRADE-CELLS) ⌝ }
 {
-    [0u32; 3584]
+    [0u32; TRADE_CELLS]
 }
 
-pub fn blank_awards() -> [u32; 1280]
-    ensures { λ r. ⌜ (r ≡ replicate 1280 0) × (length r ≡ 1280) ⌝ }
+pub fn blank_awards() -> [u32; AWARD_CELLS]
+    ensures { λ r. ⌜ (r ≡ replicate AWARD-CELLS 0) × (length r ≡ AWARD-CELLS) ⌝ }
 {
-    [0u32; 1280]
+    [0u32; AWARD_CELLS]
 }
 
-pub fn no_counts() -> [u32; 2048]
-    ensures { λ r. ⌜ r ≡ replicate 2048 0 ⌝ }
+pub fn no_counts() -> [u32; COUNT_CELLS]
+    ensures { λ r. ⌜ r ≡ replicate COUNT-CELLS 0 ⌝ }
 {
-    [0u32; 2048]
+    [0u32; COUNT_CELLS]
 }
 
 pub fn no_starts() -> [usize; SECURITIES]

@@ -3,7 +3,7 @@ ghost use Prim.Native.Nat.{ℕ};
 ghost use mathlib.Core.Path.{_≡_};
 ghost use mathlib.Core.List.{List};
 ghost use lib.ListN.{length};
-ghost use Rattle.laws.specs.Limits.{PLACES};
+ghost use Rattle.laws.specs.Limits.{PLACES, SHEET-CELLS};
 ghost use Rattle.events.specs.declared.Event.the-variants as event;
 ghost use Rattle.plain.specs.declared.Manner.the-variants as manner;
 ghost use Rattle.plain.specs.Calls.{call};
@@ -14,18 +14,22 @@ use crate::Core;
 use crate::done;
 use crate::refused;
 use events::PairOff;
+use laws::AWARD_CELLS;
 use laws::BusinessDay;
+use laws::COUNT_CELLS;
 use laws::PLACES;
+use laws::POSITION_CELLS;
 use laws::SECURITIES;
+use laws::SHEET_CELLS;
 use plain::Position;
 
 // The units of a pair-off fall from its short `p`, given as its row has it, and from its long, and its piece is written. No walk is made, so that the places where
 // walks start stay as they are.
 fn set_off(
-    rows: &mut [u32; 12288],
-    counts: &mut [u32; 2048],
+    rows: &mut [u32; POSITION_CELLS],
+    counts: &mut [u32; COUNT_CELLS],
     words: &mut [u64; SECURITIES],
-    sheet: &mut [u64; 4096],
+    sheet: &mut [u64; SHEET_CELLS],
     day: BusinessDay,
     p: Position,
     x: PairOff,
@@ -39,14 +43,14 @@ fn set_off(
 
 pub fn pair_off(
     core: Core,
-    rows: &mut [u32; 12288],
-    awards: &[u32; 1280],
-    counts: &mut [u32; 2048],
+    rows: &mut [u32; POSITION_CELLS],
+    awards: &[u32; AWARD_CELLS],
+    counts: &mut [u32; COUNT_CELLS],
     words: &mut [u64; SECURITIES],
-    sheet: &mut [u64; 4096],
+    sheet: &mut [u64; SHEET_CELLS],
     x: PairOff,
 ) -> Answered
-    requires { ⌜ ((trades starts : List ℕ) × (accounts : Ledger) × Held core (numbers (now rows) trades (now awards) (now counts) starts (now words) accounts)) × (length (now sheet) ≡ 4096) ⌝ }
+    requires { ⌜ ((trades starts : List ℕ) × (accounts : Ledger) × Held core (numbers (now rows) trades (now awards) (now counts) starts (now words) accounts)) × (length (now sheet) ≡ SHEET-CELLS) ⌝ }
     ensures { λ r. ⌜ ((trades starts : List ℕ) (accounts : Ledger) → Held core (numbers (now (rows .entry)) trades (now (awards .entry)) (now (counts .entry)) starts (now (words .entry)) accounts) → CalledOn core (numbers (now (rows .entry)) trades (now (awards .entry)) (now (counts .entry)) starts (now (words .entry)) accounts) (call (event.PairOff x) PLACES) manner.Paired (now (sheet .entry)) (r .core) (numbers (now (rows .exit)) trades (now (awards .entry)) (now (counts .exit)) starts (now (words .exit)) accounts) (now (sheet .exit)) (r .outcome) (r .pieces)) ⌝ }
 {
     let missing = refusals::both_lookup_refusal(PLACES, core.positions, x.short, x.long);

@@ -13,8 +13,10 @@ use crate::PositionAnswer;
 use crate::PriceAnswer;
 use crate::latest_of;
 use laws::ACCOUNTS;
+use laws::AWARD_CELLS;
 use laws::BusinessDay;
 use laws::MEMBERS;
+use laws::POSITION_CELLS;
 use refusals::NO_MEMBER;
 use refusals::NOT_REGISTERED;
 use refusals::NOT_THERE;
@@ -40,7 +42,7 @@ pub fn position_count(core: Core) -> usize
     core.positions
 }
 
-pub fn position(core: Core, rows: &[u32; 12288], number: u16) -> PositionAnswer
+pub fn position(core: Core, rows: &[u32; POSITION_CELLS], number: u16) -> PositionAnswer
     requires { ⌜ ((others : Numbers) × Held core (onRows others (now rows))) ⌝ }
     ensures { λ r. ⌜ ((others : Numbers) → Held core (onRows others (now (rows .entry))) → r ≡ positionAnswer (bookOf core (onRows others (now (rows .entry)))) number) ⌝ }
 {
@@ -52,7 +54,7 @@ pub fn position(core: Core, rows: &[u32; 12288], number: u16) -> PositionAnswer
     PositionAnswer::Found(found)
 }
 
-pub fn award_at(core: Core, awards: &[u32; 1280], number: u16) -> AwardAnswer
+pub fn award_at(core: Core, awards: &[u32; AWARD_CELLS], number: u16) -> AwardAnswer
     requires { ⌜ ((others : Numbers) × Held core (onAwards others (now awards))) ⌝ }
     ensures { λ r. ⌜ ((others : Numbers) → Held core (onAwards others (now (awards .entry))) → r ≡ awardAnswer (bookOf core (onAwards others (now (awards .entry)))) number) ⌝ }
 {

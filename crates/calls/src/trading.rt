@@ -3,6 +3,7 @@ ghost use Prim.Native.Nat.{ℕ};
 ghost use mathlib.Core.Path.{_≡_};
 ghost use mathlib.Core.List.{List};
 ghost use lib.ListN.{length};
+ghost use Rattle.laws.specs.Limits.{TRADE-CELLS};
 ghost use Rattle.events.specs.declared.Event.the-variants as event;
 ghost use Rattle.plain.specs.Calls.{call};
 ghost use Rattle.calls.specs.View.{Numbers, onTrades, Held, CalledBare};
@@ -12,9 +13,10 @@ use crate::done;
 use crate::refused;
 use events::Price;
 use events::Trade;
+use laws::TRADE_CELLS;
 
-pub fn trade(core: Core, trades: &mut [u32; 3584], t: Trade) -> Answered
-    requires { ⌜ length (now trades) ≡ 3584 ⌝ }
+pub fn trade(core: Core, trades: &mut [u32; TRADE_CELLS], t: Trade) -> Answered
+    requires { ⌜ length (now trades) ≡ TRADE-CELLS ⌝ }
     ensures { λ r. ⌜ ((a : Numbers) → Held core (onTrades a (now (trades .entry))) → CalledBare core (onTrades a (now (trades .entry))) (call (event.Trade t) 0) (r .core) (onTrades a (now (trades .exit))) (r .outcome) (r .pieces)) ⌝ }
 {
     let number = refusals::trade_refusal(core.opening.register.count, core.trades, t);

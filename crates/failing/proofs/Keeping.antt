@@ -7,6 +7,7 @@ use lib.Dec.{ltb, lit<}
 use lib.ListN.{length, getD, replicate, length-replicate, getD-replicate, length-append, List·getD-append}
 use lib.Seq.{getD-append-add}
 use borrow.Author.Tests.{ltb-true, ltb-false}
+use Rattle.laws.specs.Limits.{COUNT-CELLS}
 use Rattle.laws.specs.Asked.{Said, passed, failed, ask}
 use Rattle.laws.specs.Lists.{All}
 use Rattle.laws.specs.Listed.{sum-append}
@@ -28,14 +29,14 @@ no-word : (day s : ℕ) → FailingWord day [] s 0
 unfolding failing
 no-word day s = record { fits = lit< tt; bits = bit-zero }
 
-pub counted-new : (day : ℕ) → Counted day [] (replicate 32 0) (replicate 2048 0)
+pub counted-new : (day : ℕ) → Counted day [] (replicate 32 0) (replicate COUNT-CELLS 0)
 unfolding lateShorts
 counted-new day =
     record {
       securities = length-replicate {A = ℕ} 32 0;
-      places = length-replicate {A = ℕ} 2048 0;
+      places = length-replicate {A = ℕ} COUNT-CELLS 0;
       failing = λ s w. rw (nth-replicate {A = ℕ} 0 32 s 0 w) (no-word day s);
-      counted = λ s m w l. getD-replicate {A = ℕ} 2048 (countPlace s m) 0 0 (omega (arith, w .above, w .below));
+      counted = λ s m w l. getD-replicate {A = ℕ} COUNT-CELLS (countPlace s m) 0 0 (omega (arith, w .above, w .below));
     }
 
 pub late-before-new : (day : ℕ) → LateBefore day [] 0

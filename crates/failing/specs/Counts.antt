@@ -7,7 +7,7 @@ use mathlib.Core.Bool.{true, not, cond, _&&_}
 use mathlib.Core.List.{List}
 use lib.Dec.{eqb}
 use lib.ListN.{length, getD}
-use Rattle.laws.specs.Limits.{ACCOUNTS, MEMBERS, SECURITIES}
+use Rattle.laws.specs.Limits.{ACCOUNTS, COUNT-CELLS, MEMBERS, SECURITIES}
 use Rattle.laws.specs.Lists.{All, only, sum}
 use Rattle.plain.specs.declared.Position.{Position}
 use Rattle.plain.specs.Book.{noPosition, nth}
@@ -31,7 +31,7 @@ countPlace security member = ACCOUNTS * (security - 1) + member
 -- a word of failing members for each of 32 securities, and a count of late open shorts for each security and member
 pub record Counted (day : ℕ) (ps : List Position) (words counts : List ℕ) : Type 0 where
   pub securities : length words ≡ SECURITIES
-  pub places : length counts ≡ 2048
+  pub places : length counts ≡ COUNT-CELLS
   pub failing : (s : ℕ) → Within 1 SECURITIES s → FailingWord day ps s (nth 0 words s)
   pub counted : (s m : ℕ) → Within 1 SECURITIES s → m ≤ MEMBERS → getD counts (countPlace s m) 0 ≡ lateShorts day ps s m
 
@@ -62,7 +62,7 @@ pub record Lowered (day : ℕ) (ps qs : List Position) (n q : ℕ) : Type 0 wher
 -- a security and a member that have a word and a count
 pub record HasCount (words counts : List ℕ) (security member : ℕ) : Type 0 where
   pub securities : length words ≡ SECURITIES
-  pub places : length counts ≡ 2048
+  pub places : length counts ≡ COUNT-CELLS
   pub within : Within 1 SECURITIES security
   pub below : member ≤ MEMBERS
 

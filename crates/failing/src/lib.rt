@@ -7,7 +7,7 @@ ghost use mathlib.Core.List.{List};
 ghost use Prim.Native.Nat.{ℕ, _+_, _≤_, _<_};
 ghost use lib.Dec.{ltb};
 ghost use lib.ListN.{length, getD};
-ghost use Rattle.laws.specs.Limits.{MEMBERS, POSITIONS, SECURITIES};
+ghost use Rattle.laws.specs.Limits.{COUNT-CELLS, MEMBERS, POSITIONS, SECURITIES};
 ghost use Rattle.plain.specs.declared.Position as plain;
 ghost use Rattle.plain.specs.Book.{nth};
 ghost use Rattle.laws.specs.Asked.{Within};
@@ -18,7 +18,9 @@ ghost use Rattle.failing.specs.Members.{bit, Added};
 ghost use Rattle.failing.specs.Counts as spec;
 use laws::ACCOUNTS;
 use laws::BusinessDay;
+use laws::COUNT_CELLS;
 use laws::MEMBERS;
+use laws::POSITION_CELLS;
 use laws::SECURITIES;
 use plain::Position;
 
@@ -65,7 +67,7 @@ fn without_member(word: u64, member: u8) -> u64
 // The member holds one late open short in the security more.
 fn with_late_short(
     words: &mut [u64; SECURITIES],
-    counts: &mut [u32; 2048],
+    counts: &mut [u32; COUNT_CELLS],
     security: u16,
     member: u8,
 )
@@ -82,12 +84,12 @@ fn with_late_short(
 // The member holds one late open short in the security less, and with the last of them ceases to be failing in it.
 fn without_late_short(
     words: &mut [u64; SECURITIES],
-    counts: &mut [u32; 2048],
+    counts: &mut [u32; COUNT_CELLS],
     security: u16,
     member: u8,
 )
     requires { ⌜ (spec.HasCount (now words) (now counts) security member) × (0 < getD (now counts) (spec.countPlace security member) 0) ⌝ }
-    ensures { λ r. ⌜ ((day : ℕ) (ps qs : List plain.Position) → spec.Counted day ps (now (words .entry)) (now (counts .entry)) → spec.OneMore day qs day ps security member → spec.Counted day qs (now (words .exit)) (now (counts .exit))) × (length (now (counts .exit)) ≡ 2048) ⌝ }
+    ensures { λ r. ⌜ ((day : ℕ) (ps qs : List plain.Position) → spec.Counted day ps (now (words .entry)) (now (counts .entry)) → spec.OneMore day qs day ps security member → spec.Counted day qs (now (words .exit)) (now (counts .exit))) × (length (now (counts .exit)) ≡ COUNT-CELLS) ⌝ }
 {
     let place = count_place(security, member);
     let left = counts[place] - 1;
@@ -103,13 +105,13 @@ fn without_late_short(
 // What a discharge of the short `p`, given as it was before, makes of the words.
 pub fn discharged(
     words: &mut [u64; SECURITIES],
-    counts: &mut [u32; 2048],
+    counts: &mut [u32; COUNT_CELLS],
     p: Position,
     quantity: u32,
     day: BusinessDay,
 )
     requires { ⌜ ((ps : List plain.Position) × (n : ℕ) × (spec.Counted (day .0) ps (now words) (now counts)) × (spec.UnitsOf ps n p quantity)) × (Within 1 SECURITIES (p .security)) × (p .member ≤ MEMBERS) ⌝ }
-    ensures { λ r. ⌜ ((ps qs : List plain.Position) (n : ℕ) → spec.Counted (day .0) ps (now (words .entry)) (now (counts .entry)) → spec.UnitsOf ps n p quantity → spec.Lowered (day .0) ps qs n quantity → spec.Counted (day .0) qs (now (words .exit)) (now (counts .exit))) × (length (now (counts .exit)) ≡ 2048) ⌝ }
+    ensures { λ r. ⌜ ((ps qs : List plain.Position) (n : ℕ) → spec.Counted (day .0) ps (now (words .entry)) (now (counts .entry)) → spec.UnitsOf ps n p quantity → spec.Lowered (day .0) ps qs n quantity → spec.Counted (day .0) qs (now (words .exit)) (now (counts .exit))) × (length (now (counts .exit)) ≡ COUNT-CELLS) ⌝ }
 {
     if quantity < p.unsettled {
         return;
@@ -133,8 +135,8 @@ fn is_open_short(p: Position) -> bool
 // they are those from the first that was not late on. The answer is the first that is not late the day after.
 pub fn raise_late(
     words: &mut [u64; SECURITIES],
-    counts: &mut [u32; 2048],
-    rows: &[u32; 12288],
+    counts: &mut [u32; COUNT_CELLS],
+    rows: &[u32; POSITION_CELLS],
     held: usize,
     from: usize,
     day: BusinessDay,

@@ -1,5 +1,5 @@
 -- The limits of document 01, each named once. The crates' code uses the constants of the same names.
-use Prim.Native.Nat.{ℕ}
+use Prim.Native.Nat.{ℕ, _*_}
 
 -- "Members are 1 to 63; account 0 is the house."
 abbrev pub MEMBERS : ℕ
@@ -53,3 +53,20 @@ MOST-NETTED = 512000000
 -- "A file is a count (u16, at most 2,048)"
 abbrev pub EVENTS : ℕ
 EVENTS = 2048
+
+-- how many numbers each lent table of the machine's book has: twelve a position, seven a trade, five an award, four a piece, and one for each security
+-- and account, in which the late open shorts are counted
+abbrev pub POSITION-CELLS : ℕ
+POSITION-CELLS = 12 * POSITIONS
+
+abbrev pub TRADE-CELLS : ℕ
+TRADE-CELLS = 7 * TRADES
+
+abbrev pub AWARD-CELLS : ℕ
+AWARD-CELLS = 5 * AWARDS
+
+abbrev pub SHEET-CELLS : ℕ
+SHEET-CELLS = 4 * PLACES
+
+abbrev pub COUNT-CELLS : ℕ
+COUNT-CELLS = SECURITIES * ACCOUNTS

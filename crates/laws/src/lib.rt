@@ -35,3 +35,15 @@ pub const MOST_QUANTITY: u32 = 1_000_000;
 pub const MOST_PRICE: u32 = 10_000_000;
 
 pub const EVENTS: usize = 2_048;
+
+// How many numbers each lent table has: twelve a position, seven a trade, five an award, four a piece, and one for each security and account, in which
+// the late open shorts are counted.
+pub const POSITION_CELLS: usize = 12 * POSITIONS;
+
+pub const TRADE_CELLS: usize = 7 * TRADES;
+
+pub const AWARD_CELLS: usize = 5 * AWARDS;
+
+pub const SHEET_CELLS: usize = 4 * PLACES;
+
+pub const COUNT_CELLS: usize = SECURITIES * ACCOUNTS;

@@ -6,7 +6,7 @@ ghost use mathlib.Core.List.{[], _∷_};
 ghost use Prim.Native.Nat.{_+_, _<_, _≤_};
 ghost use lib.Dec.{eqb, ltb};
 ghost use lib.ListN.{length, getD};
-ghost use Rattle.laws.specs.Limits.{ACCOUNTS};
+ghost use Rattle.laws.specs.Limits.{ACCOUNTS, SHEET-CELLS};
 ghost use Rattle.rules.specs.Charges.{buyInCharge};
 ghost use Rattle.plain.specs.declared.Manner.the-variants.{Cash};
 ghost use Rattle.plain.specs.Charging.{raise, posted, charge};
@@ -17,7 +17,10 @@ ghost use Rattle.ledger.specs.Tabled.{Chargeable, AwardsFinable, LateFin
 ghost use Rattle.tables.specs.Lent.{positionTable, awardTable, pieceTable};
 ghost use Rattle.ledger.specs.Settling.{highestLong, priceOf, paymentsAt, settlementOf, Settleable};
 use laws::ACCOUNTS;
+use laws::AWARD_CELLS;
 use laws::BusinessDay;
+use laws::POSITION_CELLS;
+use laws::SHEET_CELLS;
 use plain::Position;
 use register::Register;
 use rules::Amount;
@@ -93,9 +96,9 @@ fn short_is_fined(position: Position, class: u8, latest: u32, day: BusinessDay) 
 pub fn post_award_fines(
     credits: &mut [u64; ACCOUNTS],
     debits: &mut [u64; ACCOUNTS],
-    awards: &[u32; 1280],
+    awards: &[u32; AWARD_CELLS],
     awarded: usize,
-    rows: &[u32; 12288],
+    rows: &[u32; POSITION_CELLS],
     held: usize,
     prices: Prices,
     register: Register,
@@ -123,7 +126,7 @@ pub fn post_award_fines(
 pub fn post_late_fines(
     credits: &mut [u64; ACCOUNTS],
     debits: &mut [u64; ACCOUNTS],
-    rows: &[u32; 12288],
+    rows: &[u32; POSITION_CELLS],
     held: usize,
     prices: Prices,
     register: Register,
@@ -150,9 +153,9 @@ pub fn post_late_fines(
 pub fn post_close(
     credits: &mut [u64; ACCOUNTS],
     debits: &mut [u64; ACCOUNTS],
-    awards: &[u32; 1280],
+    awards: &[u32; AWARD_CELLS],
     awarded: usize,
-    rows: &[u32; 12288],
+    rows: &[u32; POSITION_CELLS],
     held: usize,
     prices: Prices,
     register: Register,
@@ -177,7 +180,12 @@ pub fn post_close(
 }
 
 // The first pass of a cash settlement over its pieces: the highest reference price among their longs.
-fn highest_reference(rows: &[u32; 12288], held: usize, sheet: &[u64; 4096], dealt: usize) -> u32
+fn highest_reference(
+    rows: &[u32; POSITION_CELLS],
+    held: usize,
+    sheet: &[u64; SHEET_CELLS],
+    dealt: usize,
+) -> u32
     requires { ⌜ Priceable (pieceTable Cash (now sheet) dealt) (positionTable (now rows) held) ⌝ }
     ensures { λ r. ⌜ r ≡ highestLong (positionTable (now (rows .entry)) held) (pieceTable Cash (now (sheet .entry)) dealt) ⌝ }
 {
@@ -200,15 +208,15 @@ fn highest_reference(rows: &[u32; 12288], held: usize, sheet: &[u64; 4096], deal
 fn post_payments(
     credits: &mut [u64; ACCOUNTS],
     debits: &mut [u64; ACCOUNTS],
-    rows: &[u32; 12288],
+    rows: &[u32; POSITION_CELLS],
     held: usize,
-    sheet: &mut [u64; 4096],
+    sheet: &mut [u64; SHEET_CELLS],
     dealt: usize,
     payer: u8,
     price: u64,
 )
-    requires { ⌜ (Settleable (ledgerOf (now credits) (now debits)) (paymentsAt price (positionTable (now rows) held) (pieceTable Cash (now sheet) dealt)) (positionTable (now rows) held) (pieceTable Cash (now sheet) dealt) payer) × (length (now sheet) ≡ 4096) ⌝ }
-    ensures { λ r. ⌜ (Priced (pieceTable Cash (now (sheet .entry)) dealt) price (pieceTable Cash (now (sheet .exit)) dealt)) × (ledgerOf (now (credits .exit)) (now (debits .exit)) ≡ posted (ledgerOf (now (credits .entry)) (now (debits .entry))) (paymentsAt price (positionTable (now (rows .entry)) held) (pieceTable Cash (now (sheet .entry)) dealt))) × (length (now (sheet .exit)) ≡ 4096) ⌝ }
+    requires { ⌜ (Settleable (ledgerOf (now credits) (now debits)) (paymentsAt price (positionTable (now rows) held) (pieceTable Cash (now sheet) dealt)) (positionTable (now rows) held) (pieceTable Cash (now sheet) dealt) payer) × (length (now sheet) ≡ SHEET-CELLS) ⌝ }
+    ensures { λ r. ⌜ (Priced (pieceTable Cash (now (sheet .entry)) dealt) price (pieceTable Cash (now (sheet .exit)) dealt)) × (ledgerOf (now (credits .exit)) (now (debits .exit)) ≡ posted (ledgerOf (now (credits .entry)) (now (debits .entry))) (paymentsAt price (positionTable (now (rows .entry)) held) (pieceTable Cash (now (sheet .entry)) dealt))) × (length (now (sheet .exit)) ≡ SHEET-CELLS) ⌝ }
 {
     let mut i: usize = 0;
     while i < dealt {
@@ -228,16 +236,16 @@ fn post_payments(
 pub fn post_cash(
     credits: &mut [u64; ACCOUNTS],
     debits: &mut [u64; ACCOUNTS],
-    rows: &[u32; 12288],
+    rows: &[u32; POSITION_CELLS],
     held: usize,
-    sheet: &mut [u64; 4096],
+    sheet: &mut [u64; SHEET_CELLS],
     dealt: usize,
     short: Position,
     class: u8,
     latest: u32,
 )
-    requires { ⌜ (Settleable (ledgerOf (now credits) (now debits)) (settlementOf class latest short (positionTable (now rows) held) (pieceTable Cash (now sheet) dealt)) (positionTable (now rows) held) (pieceTable Cash (now sheet) dealt) (short .member)) × (length (now sheet) ≡ 4096) ⌝ }
-    ensures { λ r. ⌜ (Priced (pieceTable Cash (now (sheet .entry)) dealt) (priceOf class latest short (positionTable (now (rows .entry)) held) (pieceTable Cash (now (sheet .entry)) dealt)) (pieceTable Cash (now (sheet .exit)) dealt)) × (ledgerOf (now (credits .exit)) (now (debits .exit)) ≡ posted (ledgerOf (now (credits .entry)) (now (debits .entry))) (settlementOf class latest short (positionTable (now (rows .entry)) held) (pieceTable Cash (now (sheet .entry)) dealt))) × (length (now (sheet .exit)) ≡ 4096) ⌝ }
+    requires { ⌜ (Settleable (ledgerOf (now credits) (now debits)) (settlementOf class latest short (positionTable (now rows) held) (pieceTable Cash (now sheet) dealt)) (positionTable (now rows) held) (pieceTable Cash (now sheet) dealt) (short .member)) × (length (now sheet) ≡ SHEET-CELLS) ⌝ }
+    ensures { λ r. ⌜ (Priced (pieceTable Cash (now (sheet .entry)) dealt) (priceOf class latest short (positionTable (now (rows .entry)) held) (pieceTable Cash (now (sheet .entry)) dealt)) (pieceTable Cash (now (sheet .exit)) dealt)) × (ledgerOf (now (credits .exit)) (now (debits .exit)) ≡ posted (ledgerOf (now (credits .entry)) (now (debits .entry))) (settlementOf class latest short (positionTable (now (rows .entry)) held) (pieceTable Cash (now (sheet .entry)) dealt))) × (length (now (sheet .exit)) ≡ SHEET-CELLS) ⌝ }
 {
     let long = highest_reference(rows, held, sheet, dealt);
     let price = rules::cash_price(class, short.reference, long, latest);

@@ -4,7 +4,7 @@ ghost use mathlib.Core.List.{_∷_, []};
 ghost use Prim.Native.Nat.{_<_, _≤_, max};
 ghost use lib.ListN.{length, getD, set};
 ghost use Rattle.laws.specs.Lists.{each, range, some};
-ghost use Rattle.laws.specs.Limits.{MEMBERS};
+ghost use Rattle.laws.specs.Limits.{MEMBERS, POSITION-CELLS};
 ghost use Rattle.tables.specs.Tables.{today};
 ghost use Rattle.netting.specs.Gathering.{noTotal, noTotals, totalsOf, keyFor, partyOf, partyKindOf, placeOf, added, raised, Addable, Raisable, Gatherable, Gathered};
 ghost use Rattle.netting.specs.Members.{netFrom, kindPositions, ownPositions, bothPositions, Unequal, KindFits, MembersFit, Appended};
@@ -13,7 +13,9 @@ ghost use Rattle.tables.specs.Lent.{positionTable, tradeTable};
 use events::Trade;
 use laws::BusinessDay;
 use laws::MEMBERS;
+use laws::POSITION_CELLS;
 use laws::SECURITIES;
+use laws::TRADE_CELLS;
 use plain::Kind;
 use plain::Position;
 
@@ -120,7 +122,13 @@ fn raise(totals: &mut [u32; 8064], kind: Kind, side: Side, trade: Trade)
 }
 
 // The totals of today's business of a kind, in one pass over the trades.
-fn gather(totals: &mut [u32; 8064], kind: Kind, trades: &[u32; 3584], netted: usize, count: usize)
+fn gather(
+    totals: &mut [u32; 8064],
+    kind: Kind,
+    trades: &[u32; TRADE_CELLS],
+    netted: usize,
+    count: usize,
+)
     requires { ⌜ (Gatherable (tradeTable (now trades) count netted)) × (now totals ≡ noTotals) ⌝ }
     ensures { λ _. ⌜ Gathered kind (tradeTable (now (trades .entry)) count netted) (totalsOf (now (totals .exit))) ⌝ }
 {
@@ -144,7 +152,7 @@ fn is_client(trade: Trade) -> bool
 }
 
 // A side of one of today's trades is client business.
-fn has_client(trades: &[u32; 3584], netted: usize, count: usize) -> bool
+fn has_client(trades: &[u32; TRADE_CELLS], netted: usize, count: usize) -> bool
     requires { ⌜ Gatherable (tradeTable (now trades) count netted) ⌝ }
     ensures { λ r. ⌜ r ≡ some isClient (today (tradeTable (now (trades .entry)) count netted)) ⌝ }
 {
@@ -207,7 +215,7 @@ fn position_of(
 
 // How many positions the table holds with those of one member's business of a kind, by rising security.
 fn net_kind(
-    rows: &mut [u32; 12288],
+    rows: &mut [u32; POSITION_CELLS],
     totals: &[u32; 8064],
     day: BusinessDay,
     member: u8,
@@ -215,8 +223,8 @@ fn net_kind(
     securities: u16,
     held: usize,
 ) -> usize
-    requires { ⌜ (KindFits (totalsOf (now totals)) day member kind securities held) × (length (now rows) ≡ 12288) ⌝ }
-    ensures { λ r. ⌜ (Appended (positionTable (now (rows .entry)) held) (kindPositions (day .0) (totalsOf (now (totals .entry))) securities member kind) (positionTable (now (rows .exit)) r)) × (length (now (rows .exit)) ≡ 12288) ⌝ }
+    requires { ⌜ (KindFits (totalsOf (now totals)) day member kind securities held) × (length (now rows) ≡ POSITION-CELLS) ⌝ }
+    ensures { λ r. ⌜ (Appended (positionTable (now (rows .entry)) held) (kindPositions (day .0) (totalsOf (now (totals .entry))) securities member kind) (positionTable (now (rows .exit)) r)) × (length (now (rows .exit)) ≡ POSITION-CELLS) ⌝ }
 {
     let mut n = held;
     let mut security: u16 = 1;
@@ -235,14 +243,14 @@ fn net_kind(
 
 // How many positions the table holds with those of every member's own business.
 fn net_own(
-    rows: &mut [u32; 12288],
+    rows: &mut [u32; POSITION_CELLS],
     own: &[u32; 8064],
     day: BusinessDay,
     securities: u16,
     held: usize,
 ) -> usize
-    requires { ⌜ (MembersFit (ownPositions (day .0) (totalsOf (now own)) securities) day securities held) × (length (now rows) ≡ 12288) ⌝ }
-    ensures { λ r. ⌜ (Appended (positionTable (now (rows .entry)) held) (each (ownPositions (day .0) (totalsOf (now (own .entry))) securities) (range 1 MEMBERS)) (positionTable (now (rows .exit)) r)) × (length (now (rows .exit)) ≡ 12288) ⌝ }
+    requires { ⌜ (MembersFit (ownPositions (day .0) (totalsOf (now own)) securities) day securities held) × (length (now rows) ≡ POSITION-CELLS) ⌝ }
+    ensures { λ r. ⌜ (Appended (positionTable (now (rows .entry)) held) (each (ownPositions (day .0) (totalsOf (now (own .entry))) securities) (range 1 MEMBERS)) (positionTable (now (rows .exit)) r)) × (length (now (rows .exit)) ≡ POSITION-CELLS) ⌝ }
 {
     let mut n = held;
     let mut member: u8 = 1;
@@ -255,15 +263,15 @@ fn net_own(
 
 // How many positions the table holds with those of every member's business, its own before its clients'.
 fn net_both(
-    rows: &mut [u32; 12288],
+    rows: &mut [u32; POSITION_CELLS],
     own: &[u32; 8064],
     client: &[u32; 8064],
     day: BusinessDay,
     securities: u16,
     held: usize,
 ) -> usize
-    requires { ⌜ (MembersFit (bothPositions (day .0) (totalsOf (now own)) (totalsOf (now client)) securities) day securities held) × (length (now rows) ≡ 12288) ⌝ }
-    ensures { λ r. ⌜ (Appended (positionTable (now (rows .entry)) held) (each (bothPositions (day .0) (totalsOf (now (own .entry))) (totalsOf (now (client .entry))) securities) (range 1 MEMBERS)) (positionTable (now (rows .exit)) r)) × (length (now (rows .exit)) ≡ 12288) ⌝ }
+    requires { ⌜ (MembersFit (bothPositions (day .0) (totalsOf (now own)) (totalsOf (now client)) securities) day securities held) × (length (now rows) ≡ POSITION-CELLS) ⌝ }
+    ensures { λ r. ⌜ (Appended (positionTable (now (rows .entry)) held) (each (bothPositions (day .0) (totalsOf (now (own .entry))) (totalsOf (now (client .entry))) securities) (range 1 MEMBERS)) (positionTable (now (rows .exit)) r)) × (length (now (rows .exit)) ≡ POSITION-CELLS) ⌝ }
 {
     let mut n = held;
     let mut member: u8 = 1;
@@ -285,17 +293,17 @@ fn net_both(
 
 // How many positions the table holds with those of a day that has client business.
 fn net_clients(
-    rows: &mut [u32; 12288],
+    rows: &mut [u32; POSITION_CELLS],
     own: &[u32; 8064],
     held: usize,
-    trades: &[u32; 3584],
+    trades: &[u32; TRADE_CELLS],
     netted: usize,
     count: usize,
     day: BusinessDay,
     securities: u16,
 ) -> usize
-    requires { ⌜ (DayFits (positionTable (now rows) held) (tradeTable (now trades) count netted) day securities) × (Gathered Kind.Own (tradeTable (now trades) count netted) (totalsOf (now own))) × (length (now rows) ≡ 12288) ⌝ }
-    ensures { λ r. ⌜ (DayNetted (positionTable (now (rows .entry)) held) (tradeTable (now (trades .entry)) count netted) day securities (positionTable (now (rows .exit)) r)) × (length (now (rows .exit)) ≡ 12288) ⌝ }
+    requires { ⌜ (DayFits (positionTable (now rows) held) (tradeTable (now trades) count netted) day securities) × (Gathered Kind.Own (tradeTable (now trades) count netted) (totalsOf (now own))) × (length (now rows) ≡ POSITION-CELLS) ⌝ }
+    ensures { λ r. ⌜ (DayNetted (positionTable (now (rows .entry)) held) (tradeTable (now (trades .entry)) count netted) day securities (positionTable (now (rows .exit)) r)) × (length (now (rows .exit)) ≡ POSITION-CELLS) ⌝ }
 {
     let mut client = no_totals();
     gather(&mut client, Kind::Client, trades, netted, count);
@@ -304,16 +312,16 @@ fn net_clients(
 
 // How many positions the table holds with those that the day's trades make.
 fn net_trades(
-    rows: &mut [u32; 12288],
+    rows: &mut [u32; POSITION_CELLS],
     held: usize,
-    trades: &[u32; 3584],
+    trades: &[u32; TRADE_CELLS],
     netted: usize,
     count: usize,
     day: BusinessDay,
     securities: u16,
 ) -> usize
-    requires { ⌜ (DayFits (positionTable (now rows) held) (tradeTable (now trades) count netted) day securities) × (length (now rows) ≡ 12288) ⌝ }
-    ensures { λ r. ⌜ (DayNetted (positionTable (now (rows .entry)) held) (tradeTable (now (trades .entry)) count netted) day securities (positionTable (now (rows .exit)) r)) × (length (now (rows .exit)) ≡ 12288) ⌝ }
+    requires { ⌜ (DayFits (positionTable (now rows) held) (tradeTable (now trades) count netted) day securities) × (length (now rows) ≡ POSITION-CELLS) ⌝ }
+    ensures { λ r. ⌜ (DayNetted (positionTable (now (rows .entry)) held) (tradeTable (now (trades .entry)) count netted) day securities (positionTable (now (rows .exit)) r)) × (length (now (rows .exit)) ≡ POSITION-CELLS) ⌝ }
 {
     let mut own = no_totals();
     gather(&mut own, Kind::Own, trades, netted, count);
@@ -325,16 +333,16 @@ fn net_trades(
 
 // How many positions the table holds with those of the day. A day without trades makes none.
 pub fn net_day(
-    rows: &mut [u32; 12288],
+    rows: &mut [u32; POSITION_CELLS],
     held: usize,
-    trades: &[u32; 3584],
+    trades: &[u32; TRADE_CELLS],
     netted: usize,
     count: usize,
     day: BusinessDay,
     securities: u16,
 ) -> usize
-    requires { ⌜ (DayFits (positionTable (now rows) held) (tradeTable (now trades) count netted) day securities) × (length (now rows) ≡ 12288) ⌝ }
-    ensures { λ r. ⌜ (DayNetted (positionTable (now (rows .entry)) held) (tradeTable (now (trades .entry)) count netted) day securities (positionTable (now (rows .exit)) r)) × (length (now (rows .exit)) ≡ 12288) ⌝ }
+    requires { ⌜ (DayFits (positionTable (now rows) held) (tradeTable (now trades) count netted) day securities) × (length (now rows) ≡ POSITION-CELLS) ⌝ }
+    ensures { λ r. ⌜ (DayNetted (positionTable (now (rows .entry)) held) (tradeTable (now (trades .entry)) count netted) day securities (positionTable (now (rows .exit)) r)) × (length (now (rows .exit)) ≡ POSITION-CELLS) ⌝ }
 {
     if netted == count {
         return held;

@@ -19,6 +19,7 @@ ghost use Rattle.page.specs.Columns.{LINE, Fits, line};
 ghost use Rattle.page.specs.Page.{columns, isinOf, kindLetter, pageLine, pageLines, Showable};
 ghost use Rattle.page.specs.Answer.{pageAnswer, pageAfter, Shown};
 use calls::Core;
+use laws::POSITION_CELLS;
 use plain::Kind;
 use plain::Position;
 
@@ -100,7 +101,7 @@ fn put_position(page: &mut [u8], isins: &[u8; 384], number: u16, position: Posit
 }
 
 // The lines of the first `count` positions, by rising number from 1.
-fn put_positions(page: &mut [u8], isins: &[u8; 384], rows: &[u32; 12288], count: usize)
+fn put_positions(page: &mut [u8], isins: &[u8; 384], rows: &[u32; POSITION_CELLS], count: usize)
     requires { ⌜ (LINE * count ≤ length (now page)) × (Showable (now isins) (now rows) count) ⌝ }
     ensures { λ _. ⌜ now (page .exit) ≡ pageLines (now (isins .entry)) (positions (positionTable (now (rows .entry)) count)) ++ drop (LINE * count) (now (page .entry)) ⌝ }
 {
@@ -113,7 +114,7 @@ fn put_positions(page: &mut [u8], isins: &[u8; 384], rows: &[u32; 12288], count:
 }
 
 // The page of a book: the bytes written, or refusal 31, before anything is written.
-fn show_positions(page: &mut [u8], core: Core, rows: &[u32; 12288]) -> u64
+fn show_positions(page: &mut [u8], core: Core, rows: &[u32; POSITION_CELLS]) -> u64
     requires { ⌜ ((others : Numbers) × Held core (onRows others (now rows))) ⌝ }
     ensures { λ r. ⌜ ((others : Numbers) → Shown (bookOf core (onRows others (now (rows .entry)))) (now (page .entry)) (now (page .exit)) r) ⌝ }
 {

@@ -7,6 +7,7 @@ use mathlib.Core.Logic.{_≢_}
 use mathlib.Core.List.{List, [], _∷_, map, map-map}
 use lib.ListN.{length, getD, set}
 use lib.Seq.{getD-set-same, getD-set-other}
+use Rattle.laws.specs.Limits.{SHEET-CELLS}
 use Rattle.laws.specs.Lists.{range}
 use Rattle.cells.specs.Table.{puts, SameCells, Reads}
 use Rattle.cells.specs.Laws as law
@@ -27,7 +28,7 @@ module _ (m : Manner) where
   unfolding piecesOf
   in-manner n xs = sym (map-map (inManner m) (λ k. pieceFrom n xs (4 * k)) (range 0 1024))
 
-  pub piece-stored : (xs : List ℕ) (k short long units : ℕ) → length xs ≡ 4096 → k < 1024 → short < 65536 → long < 65536 → units < 4294967296
+  pub piece-stored : (xs : List ℕ) (k short long units : ℕ) → length xs ≡ SHEET-CELLS → k < 1024 → short < 65536 → long < 65536 → units < 4294967296
       → piecesOf m (puts (set xs (4 * k) short) (4 * k) 1 (long ∷ units ∷ 0 ∷ [])) ≡ set (piecesOf m xs) k (unpriced m short long units)
   unfolding piecesOf
   piece-stored xs k short long units e inside s l u =
@@ -38,7 +39,7 @@ module _ (m : Manner) where
   unfolding piecesOf
   piece-is = law.place-is (unpriced m 0 0 0) 4 1024 (pieceFrom m)
 
-  module _ (xs : List ℕ) (k cents : ℕ) (long : length xs ≡ 4096) (inside : k < 1024) where
+  module _ (xs : List ℕ) (k cents : ℕ) (long : length xs ≡ SHEET-CELLS) (inside : k < 1024) where
     others : (j : ℕ) → j ≢ k → SameCells 4 (set xs (4 * k + 3) cents) (4 * j) xs (4 * j)
     others j ne d h = getD-set-other xs (4 * k + 3) (4 * j + d) cents 0 (λ e. omega (arith, ne, h, e))
 

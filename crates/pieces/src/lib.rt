@@ -3,16 +3,17 @@ ghost use mathlib.Core.Path.{_≡_};
 ghost use mathlib.Core.List.{map};
 ghost use Prim.Native.Nat.{_<_};
 ghost use lib.ListN.{length, getD, set, replicate};
-ghost use Rattle.laws.specs.Limits.{PLACES};
+ghost use Rattle.laws.specs.Limits.{PLACES, SHEET-CELLS};
 ghost use Rattle.plain.specs.declared.Manner.the-variants as manner;
 ghost use Rattle.pieces.specs.Sheet.{piecesOf, unpriced, withCents, inManner};
 use laws::PLACES;
+use laws::SHEET_CELLS;
 use plain::Manner;
 use plain::Piece;
 
-pub fn put_piece(sheet: &mut [u64; 4096], place: usize, short: u16, long: u16, units: u32)
-    requires { ⌜ (length (now sheet) ≡ 4096) × (place < PLACES) ⌝ }
-    ensures { λ _. ⌜ ((m : Manner) → piecesOf m (now (sheet .exit)) ≡ set (piecesOf m (now (sheet .entry))) place (unpriced m short long units)) × (length (now (sheet .exit)) ≡ 4096) ⌝ }
+pub fn put_piece(sheet: &mut [u64; SHEET_CELLS], place: usize, short: u16, long: u16, units: u32)
+    requires { ⌜ (length (now sheet) ≡ SHEET-CELLS) × (place < PLACES) ⌝ }
+    ensures { λ _. ⌜ ((m : Manner) → piecesOf m (now (sheet .exit)) ≡ set (piecesOf m (now (sheet .entry))) place (unpriced m short long units)) × (length (now (sheet .exit)) ≡ SHEET-CELLS) ⌝ }
 {
     let at = 4 * place;
     sheet[at] = short as u64;
@@ -22,14 +23,14 @@ pub fn put_piece(sheet: &mut [u64; 4096], place: usize, short: u16, long: u16, u
 }
 
 // The long of a piece, and its units.
-pub fn long_at(sheet: &[u64; 4096], place: usize) -> u16
+pub fn long_at(sheet: &[u64; SHEET_CELLS], place: usize) -> u16
     requires { ⌜ place < PLACES ⌝ }
     ensures { λ r. ⌜ ((m : Manner) → r ≡ getD (piecesOf m (now (sheet .entry))) place (unpriced m 0 0 0) .long) ⌝ }
 {
     (sheet[4 * place + 1] % 65536) as u16
 }
 
-pub fn units_at(sheet: &[u64; 4096], place: usize) -> u32
+pub fn units_at(sheet: &[u64; SHEET_CELLS], place: usize) -> u32
     requires { ⌜ place < PLACES ⌝ }
     ensures { λ r. ⌜ ((m : Manner) → r ≡ getD (piecesOf m (now (sheet .entry))) place (unpriced m 0 0 0) .quantity) ⌝ }
 {
@@ -37,14 +38,14 @@ pub fn units_at(sheet: &[u64; 4096], place: usize) -> u32
 }
 
 // The cents of a piece; the rest of it stays.
-pub fn put_cents(sheet: &mut [u64; 4096], place: usize, cents: u64)
-    requires { ⌜ (length (now sheet) ≡ 4096) × (place < PLACES) ⌝ }
-    ensures { λ _. ⌜ ((m : Manner) → piecesOf m (now (sheet .exit)) ≡ set (piecesOf m (now (sheet .entry))) place (withCents cents (getD (piecesOf m (now (sheet .entry))) place (unpriced m 0 0 0)))) × (length (now (sheet .exit)) ≡ 4096) ⌝ }
+pub fn put_cents(sheet: &mut [u64; SHEET_CELLS], place: usize, cents: u64)
+    requires { ⌜ (length (now sheet) ≡ SHEET-CELLS) × (place < PLACES) ⌝ }
+    ensures { λ _. ⌜ ((m : Manner) → piecesOf m (now (sheet .exit)) ≡ set (piecesOf m (now (sheet .entry))) place (withCents cents (getD (piecesOf m (now (sheet .entry))) place (unpriced m 0 0 0)))) × (length (now (sheet .exit)) ≡ SHEET-CELLS) ⌝ }
 {
     sheet[4 * place + 3] = cents;
 }
 
-pub fn piece_at(sheet: &[u64; 4096], place: usize, manner: Manner) -> Piece
+pub fn piece_at(sheet: &[u64; SHEET_CELLS], place: usize, manner: Manner) -> Piece
     requires { ⌜ place < PLACES ⌝ }
     ensures { λ r. ⌜ r ≡ getD (piecesOf manner (now (sheet .entry))) place (unpriced manner 0 0 0) ⌝ }
 {
@@ -73,7 +74,7 @@ pub fn blank_pieces() -> [Piece; PLACES]
 }
 
 // All places of the sheet as pieces of one manner.
-pub fn pieces_of(sheet: &[u64; 4096], manner: Manner) -> [Piece; PLACES]
+pub fn pieces_of(sheet: &[u64; SHEET_CELLS], manner: Manner) -> [Piece; PLACES]
     ensures { λ r. ⌜ r ≡ piecesOf manner (now (sheet .entry)) ⌝ }
 {
     let mut items = blank_pieces();
@@ -86,15 +87,15 @@ pub fn pieces_of(sheet: &[u64; 4096], manner: Manner) -> [Piece; PLACES]
 }
 
 // The numbers of an empty sheet.
-pub fn blank_numbers() -> [u64; 4096]
-    ensures { λ r. ⌜ (r ≡ replicate 4096 0) × (length r ≡ 4096) ⌝ }
+pub fn blank_numbers() -> [u64; SHEET_CELLS]
+    ensures { λ r. ⌜ (r ≡ replicate SHEET-CELLS 0) × (length r ≡ SHEET-CELLS) ⌝ }
 {
-    [0; 4096]
+    [0; SHEET_CELLS]
 }
 
 // The numbers that stand for these pieces, whatever their manners.
-pub fn numbers_of(items: [Piece; PLACES]) -> [u64; 4096]
-    ensures { λ r. ⌜ ((m : Manner) → piecesOf m r ≡ map (inManner m) items) × (length r ≡ 4096) ⌝ }
+pub fn numbers_of(items: [Piece; PLACES]) -> [u64; SHEET_CELLS]
+    ensures { λ r. ⌜ ((m : Manner) → piecesOf m r ≡ map (inManner m) items) × (length r ≡ SHEET-CELLS) ⌝ }
 {
     let mut sheet = blank_numbers();
     let mut i: usize = 0;

@@ -5,13 +5,19 @@ ghost use Prim.Native.Nat.{ℕ, _≤_};
 ghost use mathlib.Core.Path.{_≡_};
 ghost use mathlib.Core.List.{List};
 ghost use lib.ListN.{length};
+ghost use Rattle.laws.specs.Limits.{SHEET-CELLS};
 ghost use Rattle.events.specs.File.{eventsOf};
 ghost use Rattle.ledger.specs.Posts.{ledgerOf};
 ghost use Rattle.calls.specs.View.{Numbers, numbers, onRows, onLedger, Held};
 ghost use Rattle.replay.specs.Replay.{PlayedUpTo, NewlyHeld};
 use calls::Core;
 use laws::ACCOUNTS;
+use laws::AWARD_CELLS;
+use laws::COUNT_CELLS;
+use laws::POSITION_CELLS;
 use laws::SECURITIES;
+use laws::SHEET_CELLS;
+use laws::TRADE_CELLS;
 use libc::STDERR_FILENO;
 use libc::STDIN_FILENO;
 use libc::STDOUT_FILENO;
@@ -43,17 +49,17 @@ fn print_events(
     page: &mut [u8],
     file: &[u8],
     core: Core,
-    rows: &mut [u32; 12288],
-    trades: &mut [u32; 3584],
-    awards: &mut [u32; 1280],
-    counts: &mut [u32; 2048],
+    rows: &mut [u32; POSITION_CELLS],
+    trades: &mut [u32; TRADE_CELLS],
+    awards: &mut [u32; AWARD_CELLS],
+    counts: &mut [u32; COUNT_CELLS],
     starts: &mut [usize; SECURITIES],
     words: &mut [u64; SECURITIES],
     credits: &mut [u64; ACCOUNTS],
     debits: &mut [u64; ACCOUNTS],
-    sheet: &mut [u64; 4096],
+    sheet: &mut [u64; SHEET_CELLS],
 ) -> Core
-    requires { ⌜ (Held core (numbers (now rows) (now trades) (now awards) (now counts) (now starts) (now words) (ledgerOf (now credits) (now debits)))) × (length (now sheet) ≡ 4096) × (length (now page) ≡ 131072) ⌝ }
+    requires { ⌜ (Held core (numbers (now rows) (now trades) (now awards) (now counts) (now starts) (now words) (ledgerOf (now credits) (now debits)))) × (length (now sheet) ≡ SHEET-CELLS) × (length (now page) ≡ 131072) ⌝ }
     ensures { λ r. ⌜ (PlayedUpTo core (numbers (now (rows .entry)) (now (trades .entry)) (now (awards .entry)) (now (counts .entry)) (now (starts .entry)) (now (words .entry)) (ledgerOf (now (credits .entry)) (now (debits .entry)))) (eventsOf (now (file .entry))) r (numbers (now (rows .exit)) (now (trades .exit)) (now (awards .exit)) (now (counts .exit)) (now (starts .exit)) (now (words .exit)) (ledgerOf (now (credits .exit)) (now (debits .exit))))) × (length (now (page .exit)) ≡ 131072) ⌝ }
 {
     let count = events::events_in(file) as usize;
@@ -86,7 +92,7 @@ fn print_events(
 fn print_end(
     page: &mut [u8],
     core: Core,
-    rows: &[u32; 12288],
+    rows: &[u32; POSITION_CELLS],
     credits: &[u64; ACCOUNTS],
     debits: &[u64; ACCOUNTS],
 )

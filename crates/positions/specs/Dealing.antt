@@ -5,7 +5,7 @@ use mathlib.Core.Path.{_≡_}
 use mathlib.Core.List.{List}
 use mathlib.Core.Bool.{true}
 use lib.Dec.{eqb}
-use Rattle.laws.specs.Limits.{MOST-NETTED}
+use Rattle.laws.specs.Limits.{MOST-NETTED, POSITION-CELLS, SHEET-CELLS}
 use Rattle.laws.specs.Lists.{All, only}
 use Rattle.plain.specs.declared.Position.{Position}
 use Rattle.plain.specs.declared.Piece.{Piece}
@@ -92,15 +92,15 @@ ClosedBefore security items n = (j : ℕ) → j < n → longOf security (getD it
 pub record Walkable (rows sheet : List ℕ) (count day short quantity start : ℕ) : Type 0 where
   pub dealing : Dealing (positionTable rows count) day short quantity
   pub some : 0 < quantity
-  pub rows-length : length rows ≡ 12288
-  pub sheet-length : length sheet ≡ 4096
+  pub rows-length : length rows ≡ POSITION-CELLS
+  pub sheet-length : length sheet ≡ SHEET-CELLS
   pub within : start ≤ count
   pub closed : ClosedBefore (rowOf rows short .security) (rowsOf rows) start
 
 -- what it leaves in them, the number of pieces, and the place where it ended
 pub record Walked (rows : List ℕ) (count day short quantity : ℕ) (manner : Manner) (after sheet : List ℕ) (pieces end : ℕ) : Type 0 where
   pub dealt : DealtOut (positionTable rows count) day short quantity manner (record { positions = positionTable after count; pieces = pieceTable manner sheet pieces })
-  pub rows-length : length after ≡ 12288
-  pub sheet-length : length sheet ≡ 4096
+  pub rows-length : length after ≡ POSITION-CELLS
+  pub sheet-length : length sheet ≡ SHEET-CELLS
   pub within : end ≤ count
   pub closed : ClosedBefore (rowOf rows short .security) (rowsOf after) end

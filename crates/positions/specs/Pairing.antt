@@ -4,7 +4,7 @@ use mathlib.Core.Path.{_≡_}
 use mathlib.Core.Logic.{_≢_}
 use mathlib.Core.List.{List, [], _∷_}
 use lib.ListN.{length, take}
-use Rattle.laws.specs.Limits.{POSITIONS}
+use Rattle.laws.specs.Limits.{POSITION-CELLS, POSITIONS, SHEET-CELLS}
 use Rattle.laws.specs.Asked.{Within}
 use Rattle.plain.specs.declared.Manner.the-variants.{Paired}
 use Rattle.plain.specs.Dealing.{lowering}
@@ -20,12 +20,12 @@ pub record SettingOff (rows sheet : List ℕ) (short long quantity : ℕ) : Type
   pub apart : long ≢ short
   pub own : Lowerable (rowOf rows short) quantity
   pub other : Lowerable (rowOf rows long) quantity
-  pub rows-length : length rows ≡ 12288
-  pub sheet-length : length sheet ≡ 4096
+  pub rows-length : length rows ≡ POSITION-CELLS
+  pub sheet-length : length sheet ≡ SHEET-CELLS
 
 -- and what it leaves in them: "Both fall by the quantity, one piece of manner paired and 0 cents is handed out"
 pub record SetOff (rows : List ℕ) (short long quantity : ℕ) (after sheet : List ℕ) : Type 0 where
   pub fallen : rowsOf after ≡ lowering (pieceOf Paired short long quantity ∷ []) (rowsOf rows)
   pub piece : take 1 (piecesOf Paired sheet) ≡ pieceOf Paired short long quantity ∷ []
-  pub rows-length : length after ≡ 12288
-  pub sheet-length : length sheet ≡ 4096
+  pub rows-length : length after ≡ POSITION-CELLS
+  pub sheet-length : length sheet ≡ SHEET-CELLS

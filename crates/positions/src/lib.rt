@@ -4,6 +4,8 @@ ghost use mathlib.Core.Path.{_≡_};
 ghost use Rattle.positions.specs.Dealing as spec;
 ghost use Rattle.positions.specs.Pairing.{SettingOff, SetOff};
 use laws::BusinessDay;
+use laws::POSITION_CELLS;
+use laws::SHEET_CELLS;
 use plain::Manner;
 use plain::Position;
 
@@ -56,8 +58,8 @@ fn lowered_by(p: Position, manner: Manner, units: u32) -> Position
 // The table is in order of rising delivery days, so the walk steps along it from day to day, and within a day from
 // position to position; it is left as soon as the quantity is dealt out. It starts where the first open long may be. The table is lent, and changed where it stands.
 pub fn deal(
-    rows: &mut [u32; 12288],
-    sheet: &mut [u64; 4096],
+    rows: &mut [u32; POSITION_CELLS],
+    sheet: &mut [u64; SHEET_CELLS],
     count: usize,
     day: BusinessDay,
     short: u16,
@@ -103,8 +105,8 @@ pub fn deal(
 // Units of a short are set off against a long: both fall by them, and the sheet's first piece says so. Which long takes them is given, so that nothing is
 // walked over.
 pub fn set_off(
-    rows: &mut [u32; 12288],
-    sheet: &mut [u64; 4096],
+    rows: &mut [u32; POSITION_CELLS],
+    sheet: &mut [u64; SHEET_CELLS],
     short: u16,
     long: u16,
     quantity: u32,

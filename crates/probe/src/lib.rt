@@ -26,8 +26,12 @@ use calls::Core;
 use calls::PriceAnswer;
 use events::Event;
 use laws::ACCOUNTS;
+use laws::AWARD_CELLS;
+use laws::COUNT_CELLS;
 use laws::PLACES;
+use laws::POSITION_CELLS;
 use laws::SECURITIES;
+use laws::TRADE_CELLS;
 use plain::LatestPrice;
 use plain::Outcome;
 use plain::Piece;
@@ -75,10 +79,10 @@ fn closes_made(closes: u32) -> u32
 // So many closes, the refused ones included.
 fn closed(
     core: Core,
-    rows: &mut [u32; 12288],
-    trades: &[u32; 3584],
-    awards: &[u32; 1280],
-    counts: &mut [u32; 2048],
+    rows: &mut [u32; POSITION_CELLS],
+    trades: &[u32; TRADE_CELLS],
+    awards: &[u32; AWARD_CELLS],
+    counts: &mut [u32; COUNT_CELLS],
     words: &mut [u64; SECURITIES],
     credits: &mut [u64; ACCOUNTS],
     debits: &mut [u64; ACCOUNTS],

@@ -2,6 +2,7 @@
 ghost use Prim.Native.Nat.{_≤_};
 ghost use mathlib.Core.Path.{_≡_};
 ghost use lib.ListN.{length, take};
+ghost use Rattle.laws.specs.Limits.{SHEET-CELLS};
 ghost use Rattle.events.specs.File.{eventsOf};
 ghost use Rattle.plain.specs.Book as plain;
 ghost use Rattle.plain.specs.Histories.{run, callsOf};
@@ -13,7 +14,12 @@ ghost use Rattle.replay.specs.Replay.{ReadyFor, PlayedUpTo, NewlyHeld, O
 use book::Book;
 use calls::Core;
 use laws::ACCOUNTS;
+use laws::AWARD_CELLS;
+use laws::COUNT_CELLS;
+use laws::POSITION_CELLS;
 use laws::SECURITIES;
+use laws::SHEET_CELLS;
+use laws::TRADE_CELLS;
 
 // What is answered before any event is played: a refusal number, or 0, and the core of a new book.
 pub struct Checked {
@@ -47,20 +53,20 @@ pub fn ready(register: &[u8], file: &[u8]) -> Checked
 // The first `stop` events of a file, one after the other.
 pub fn play(
     core: Core,
-    rows: &mut [u32; 12288],
-    trades: &mut [u32; 3584],
-    awards: &mut [u32; 1280],
-    counts: &mut [u32; 2048],
+    rows: &mut [u32; POSITION_CELLS],
+    trades: &mut [u32; TRADE_CELLS],
+    awards: &mut [u32; AWARD_CELLS],
+    counts: &mut [u32; COUNT_CELLS],
     starts: &mut [usize; SECURITIES],
     words: &mut [u64; SECURITIES],
     credits: &mut [u64; ACCOUNTS],
     debits: &mut [u64; ACCOUNTS],
-    sheet: &mut [u64; 4096],
+    sheet: &mut [u64; SHEET_CELLS],
     file: &[u8],
     stop: usize,
 ) -> Core
-    requires { ⌜ (Held core (numbers (now rows) (now trades) (now awards) (now counts) (now starts) (now words) (ledgerOf (now credits) (now debits)))) × (length (now sheet) ≡ 4096) × (stop ≤ length (eventsOf (now file))) ⌝ }
-    ensures { λ r. ⌜ (PlayedUpTo core (numbers (now (rows .entry)) (now (trades .entry)) (now (awards .entry)) (now (counts .entry)) (now (starts .entry)) (now (words .entry)) (ledgerOf (now (credits .entry)) (now (debits .entry)))) (take stop (eventsOf (now (file .entry)))) r (numbers (now (rows .exit)) (now (trades .exit)) (now (awards .exit)) (now (counts .exit)) (now (starts .exit)) (now (words .exit)) (ledgerOf (now (credits .exit)) (now (debits .exit))))) × (length (now (sheet .exit)) ≡ 4096) ⌝ }
+    requires { ⌜ (Held core (numbers (now rows) (now trades) (now awards) (now counts) (now starts) (now words) (ledgerOf (now credits) (now debits)))) × (length (now sheet) ≡ SHEET-CELLS) × (stop ≤ length (eventsOf (now file))) ⌝ }
+    ensures { λ r. ⌜ (PlayedUpTo core (numbers (now (rows .entry)) (now (trades .entry)) (now (awards .entry)) (now (counts .entry)) (now (starts .entry)) (now (words .entry)) (ledgerOf (now (credits .entry)) (now (debits .entry)))) (take stop (eventsOf (now (file .entry)))) r (numbers (now (rows .exit)) (now (trades .exit)) (now (awards .exit)) (now (counts .exit)) (now (starts .exit)) (now (words .exit)) (ledgerOf (now (credits .exit)) (now (debits .exit))))) × (length (now (sheet .exit)) ≡ SHEET-CELLS) ⌝ }
 {
     let mut after = core;
     let mut i: usize = 0;

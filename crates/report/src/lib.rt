@@ -15,6 +15,8 @@ ghost use Rattle.report.specs.Lines.{LINE, accountLine, accountLines, am
 ghost use Rattle.report.specs.Pages.{Put, Wrote};
 use laws::ACCOUNTS;
 use laws::PLACES;
+use laws::POSITION_CELLS;
+use laws::SHEET_CELLS;
 use plain::Manner;
 use plain::Piece;
 use plain::Position;
@@ -211,7 +213,7 @@ fn at_most(count: usize) -> usize
 
 // The lines of the first `count` pieces, of all 1,024 if `count` is more. The page has at least 80 bytes for each.
 // A line does not tell the manner of its piece.
-pub fn piece_lines(page: &mut [u8], sheet: &[u64; 4096], count: usize) -> usize
+pub fn piece_lines(page: &mut [u8], sheet: &[u64; SHEET_CELLS], count: usize) -> usize
     ensures { λ r. ⌜ ((m : Manner) → Wrote (LINE * min count PLACES) (pieceLines (take count (piecesOf m (now (sheet .entry))))) (now (page .entry)) (now (page .exit)) r) ⌝ }
 {
     let stop = at_most(count);
@@ -234,7 +236,7 @@ pub fn event_lines(
     number: u32,
     refusal: u8,
     quantity: u32,
-    sheet: &[u64; 4096],
+    sheet: &[u64; SHEET_CELLS],
     count: usize,
 ) -> usize
     ensures { λ r. ⌜ ((m : Manner) → Wrote (LINE * (1 + min count PLACES)) (eventLines number refusal quantity (take count (piecesOf m (now (sheet .entry))))) (now (page .entry)) (now (page .exit)) r) ⌝ }
@@ -248,7 +250,7 @@ pub fn event_lines(
 }
 
 // The lines of the first `count` positions, by rising number from 1. The page has at least 80 bytes for each.
-pub fn position_lines(page: &mut [u8], rows: &[u32; 12288], count: usize) -> usize
+pub fn position_lines(page: &mut [u8], rows: &[u32; POSITION_CELLS], count: usize) -> usize
     requires { ⌜ count ≤ POSITIONS ⌝ }
     ensures { λ r. ⌜ Wrote (LINE * count) (positionLines (positions (positionTable (now (rows .entry)) count))) (now (page .entry)) (now (page .exit)) r ⌝ }
 {

@@ -5,6 +5,7 @@ use native.Mathlib.Omega.{arith}
 use mathlib.Core.Path.{_≡_, refl}
 use mathlib.Core.List.{List, [], _∷_}
 use lib.ListN.{length, getD, set}
+use Rattle.laws.specs.Limits.{AWARD-CELLS, POSITION-CELLS, TRADE-CELLS}
 use Rattle.cells.specs.Table.{puts, Reads}
 use Rattle.cells.specs.Laws as law
 use Rattle.cells.specs.Laws.{first-cell, bit-back}
@@ -35,7 +36,7 @@ pub length-rows : (xs : List ℕ) → length (rowsOf xs) ≡ 1024
 unfolding rowsOf
 length-rows = law.length-table noPosition 12 1024 rowFrom
 
-pub row-stored : (xs : List ℕ) (k : ℕ) (p : Position) (b n : ℕ) → length xs ≡ 12288 → k < 1024 → p .member < 256 → p .security < 65536 → p .settlement .0 < 65536 → b ≡ bitOf (p .short) → n ≡ kindNumber (p .kind)
+pub row-stored : (xs : List ℕ) (k : ℕ) (p : Position) (b n : ℕ) → length xs ≡ POSITION-CELLS → k < 1024 → p .member < 256 → p .security < 65536 → p .settlement .0 < 65536 → b ≡ bitOf (p .short) → n ≡ kindNumber (p .kind)
     → rowsOf (puts (set xs (12 * k) (p .member)) (12 * k) 1 (p .security ∷ b ∷ p .settlement .0 ∷ p .reference ∷ p .netted ∷ p .delivered ∷ p .bought ∷ p .cash ∷ p .paired ∷ p .unsettled ∷ n ∷ [])) ≡ set (rowsOf xs) k p
 unfolding rowsOf
 row-stored xs k p b n long inside m s d e f =
@@ -56,7 +57,7 @@ pub length-trades : (xs : List ℕ) → length (tradesOf xs) ≡ 512
 unfolding tradesOf
 length-trades = law.length-table noTrade 7 512 tradeFrom
 
-pub trade-stored : (xs : List ℕ) (k : ℕ) (t : Trade) → length xs ≡ 3584 → k < 512 → t .seller < 256 → t .buyer < 256 → t .security < 65536 → t .sellerkind < 256 → t .buyerkind < 256
+pub trade-stored : (xs : List ℕ) (k : ℕ) (t : Trade) → length xs ≡ TRADE-CELLS → k < 512 → t .seller < 256 → t .buyer < 256 → t .security < 65536 → t .sellerkind < 256 → t .buyerkind < 256
     → tradesOf (puts (set xs (7 * k) (t .seller)) (7 * k) 1 (t .buyer ∷ t .security ∷ t .quantity ∷ t .price ∷ t .sellerkind ∷ t .buyerkind ∷ [])) ≡ set (tradesOf xs) k t
 unfolding tradesOf
 trade-stored xs k t long inside s b c m n =
@@ -77,7 +78,7 @@ pub length-awards : (xs : List ℕ) → length (awardsOf xs) ≡ 256
 unfolding awardsOf
 length-awards = law.length-table noAward 5 256 awardFrom
 
-pub award-stored : (xs : List ℕ) (k : ℕ) (a : Award) (b : ℕ) → length xs ≡ 1280 → k < 256 → a .position < 65536 → a .offerer < 256 → b ≡ bitOf (a .confirmed)
+pub award-stored : (xs : List ℕ) (k : ℕ) (a : Award) (b : ℕ) → length xs ≡ AWARD-CELLS → k < 256 → a .position < 65536 → a .offerer < 256 → b ≡ bitOf (a .confirmed)
     → awardsOf (puts (set xs (5 * k) (a .position)) (5 * k) 1 (a .offerer ∷ a .quantity ∷ a .price ∷ b ∷ [])) ≡ set (awardsOf xs) k a
 unfolding awardsOf
 award-stored xs k a b long inside p o e =

@@ -3,7 +3,7 @@ ghost use mathlib.Core.Path.{_≡_};
 ghost use mathlib.Core.List.{List};
 ghost use Prim.Native.Nat.{ℕ, _+_, _*_, min};
 ghost use lib.ListN.{length, take};
-ghost use Rattle.laws.specs.Limits.{PLACES};
+ghost use Rattle.laws.specs.Limits.{PLACES, SHEET-CELLS};
 ghost use Rattle.plain.specs.declared.Manner.{Manner};
 ghost use Rattle.plain.specs.declared.Outcome.the-variants as outcome;
 ghost use Rattle.pieces.specs.Sheet.{piecesOf};
@@ -18,7 +18,12 @@ use calls::Answered;
 use calls::Core;
 use events::Event;
 use laws::ACCOUNTS;
+use laws::AWARD_CELLS;
+use laws::COUNT_CELLS;
+use laws::POSITION_CELLS;
 use laws::SECURITIES;
+use laws::SHEET_CELLS;
+use laws::TRADE_CELLS;
 use plain::Outcome;
 
 // What the input answers before its first event: a refusal number, or 0; where its file begins; and the core of its register's new book.
@@ -90,7 +95,7 @@ pub fn answer_lines(
     page: &mut [u8],
     number: u32,
     outcome: Outcome,
-    sheet: &[u64; 4096],
+    sheet: &[u64; SHEET_CELLS],
     pieces: usize,
 ) -> usize
     ensures { λ r. ⌜ ((m : Manner) → Wrote (LINE * (1 + min pieces PLACES)) (eventLines number (numberOf outcome) (quantityOf outcome) (take pieces (piecesOf m (now (sheet .entry))))) (now (page .entry)) (now (page .exit)) r) ⌝ }
@@ -118,19 +123,19 @@ pub fn play_events(
     page: &mut [u8],
     file: &[u8],
     core: Core,
-    rows: &mut [u32; 12288],
-    trades: &mut [u32; 3584],
-    awards: &mut [u32; 1280],
-    counts: &mut [u32; 2048],
+    rows: &mut [u32; POSITION_CELLS],
+    trades: &mut [u32; TRADE_CELLS],
+    awards: &mut [u32; AWARD_CELLS],
+    counts: &mut [u32; COUNT_CELLS],
     starts: &mut [usize; SECURITIES],
     words: &mut [u64; SECURITIES],
     credits: &mut [u64; ACCOUNTS],
     debits: &mut [u64; ACCOUNTS],
-    sheet: &mut [u64; 4096],
+    sheet: &mut [u64; SHEET_CELLS],
     from: usize,
 ) -> Played
-    requires { ⌜ (Held core (numbers (now rows) (now trades) (now awards) (now counts) (now starts) (now words) (ledgerOf (now credits) (now debits)))) × (length (now sheet) ≡ 4096) ⌝ }
-    ensures { λ r. ⌜ (PlayedOn (now (file .entry)) core (numbers (now (rows .entry)) (now (trades .entry)) (now (awards .entry)) (now (counts .entry)) (now (starts .entry)) (now (words .entry)) (ledgerOf (now (credits .entry)) (now (debits .entry)))) from (now (page .entry)) (now (page .exit)) (numbers (now (rows .exit)) (now (trades .exit)) (now (awards .exit)) (now (counts .exit)) (now (starts .exit)) (now (words .exit)) (ledgerOf (now (credits .exit)) (now (debits .exit)))) r) × (length (now (sheet .exit)) ≡ 4096) ⌝ }
+    requires { ⌜ (Held core (numbers (now rows) (now trades) (now awards) (now counts) (now starts) (now words) (ledgerOf (now credits) (now debits)))) × (length (now sheet) ≡ SHEET-CELLS) ⌝ }
+    ensures { λ r. ⌜ (PlayedOn (now (file .entry)) core (numbers (now (rows .entry)) (now (trades .entry)) (now (awards .entry)) (now (counts .entry)) (now (starts .entry)) (now (words .entry)) (ledgerOf (now (credits .entry)) (now (debits .entry)))) from (now (page .entry)) (now (page .exit)) (numbers (now (rows .exit)) (now (trades .exit)) (now (awards .exit)) (now (counts .exit)) (now (starts .exit)) (now (words .exit)) (ledgerOf (now (credits .exit)) (now (debits .exit)))) r) × (length (now (sheet .exit)) ≡ SHEET-CELLS) ⌝ }
 {
     let count = events::events_in(file) as usize;
     let room = page.len();
@@ -210,7 +215,7 @@ pub fn play_events(
 pub fn end_lines(
     page: &mut [u8],
     core: Core,
-    rows: &[u32; 12288],
+    rows: &[u32; POSITION_CELLS],
     credits: &[u64; ACCOUNTS],
     debits: &[u64; ACCOUNTS],
 ) -> usize

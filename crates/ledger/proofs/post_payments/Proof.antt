@@ -5,6 +5,7 @@ use Prim.Native.Nat.{_+_, _-_, _*_, _≤_}
 use mathlib.Core.Path.{_≡_, refl, _∙_}
 use mathlib.Core.List.{_∷_}
 use lib.ListN.{length, getD}
+use Rattle.laws.specs.Limits.{SHEET-CELLS}
 use Rattle.plain.specs.declared.Piece.{Piece}
 use Rattle.plain.specs.declared.Manner.the-variants.{Cash}
 use Rattle.plain.specs.Book.{noPosition}
@@ -25,7 +26,7 @@ use Rattle.ledger.proofs.post_payments.Tie as tie
 abbrev Inv-loop : tie.InvT-loop
 Inv-loop credits₀ debits₀ rows held sheet₀ dealt payer price i₀ credits debits sheet i =
     (Changing (pricedAt price) dealt (piecesOf Cash sheet₀) i (piecesOf Cash sheet))
-    × (PostingAt (paymentAt price (positionTable rows held)) dealt (piecesOf Cash sheet₀) (ledgerOf credits₀ debits₀) i (ledgerOf credits debits)) × (i ≤ dealt) × (length sheet ≡ 4096)
+    × (PostingAt (paymentAt price (positionTable rows held)) dealt (piecesOf Cash sheet₀) (ledgerOf credits₀ debits₀) i (ledgerOf credits debits)) × (i ≤ dealt) × (length sheet ≡ SHEET-CELLS)
 
 abbrev μ-loop : tie.MeasureT-loop
 μ-loop credits₀ debits₀ rows held sheet₀ dealt payer price i₀ credits debits sheet i = dealt - i

@@ -6,6 +6,7 @@ use mathlib.Core.Path.{_≡_, ap, _∙_}
 use mathlib.Core.Logic.{⊎-elim}
 use mathlib.Core.List.{List, _++_}
 use lib.ListN.{length}
+use Rattle.laws.specs.Limits.{POSITION-CELLS}
 use Rattle.plain.specs.declared.Position.{Position}
 use Rattle.plain.specs.Invariants.{KeyFits}
 use Rattle.rows.proofs.Cells.{length-rows}
@@ -25,7 +26,7 @@ abbrev Inv-loop : tie.InvT-loop
 Inv-loop rows₀ totals day member kind securities held n₀ security₀ rows n security =
     Filling (runTable (ofSecurity (day .0) (totalsOf totals) member kind securities) securities rows₀ held) (eachFrom (ofSecurity (day .0) (totalsOf totals) member kind securities) securities security) n (rowsOf rows)
     × (1 ≤ security)
-    × (length rows ≡ 12288)
+    × (length rows ≡ POSITION-CELLS)
 
 abbrev μ-loop : tie.MeasureT-loop
 μ-loop rows₀ totals day member kind securities held n₀ security₀ rows n security = securities + 1 - security

@@ -4,6 +4,7 @@ use Prim.Native.Nat.{ℕ, _+_, _-_, _≤_}
 use mathlib.Core.Path.{_≡_}
 use mathlib.Core.List.{List, _++_}
 use lib.ListN.{length}
+use Rattle.laws.specs.Limits.{POSITION-CELLS}
 use Rattle.plain.specs.declared.Position.{Position}
 use Rattle.netting.specs.Gathering.{totalsOf}
 use Rattle.netting.specs.Members.{ownPositions}
@@ -17,7 +18,7 @@ abbrev Inv-loop : tie.InvT-loop
 Inv-loop rows₀ own day securities held n₀ member₀ rows n member =
     Filling (runTable (ownPositions (day .0) (totalsOf own) securities) 63 rows₀ held) (eachFrom (ownPositions (day .0) (totalsOf own) securities) 63 member) n (rowsOf rows)
     × (1 ≤ member)
-    × (length rows ≡ 12288)
+    × (length rows ≡ POSITION-CELLS)
 
 abbrev μ-loop : tie.MeasureT-loop
 μ-loop rows₀ own day securities held n₀ member₀ rows n member = 64 - member

@@ -5,6 +5,7 @@ use Prim.Native.Nat.{_-_, _≤_}
 use mathlib.Core.Path.{_≡_, refl}
 use mathlib.Core.List.{map}
 use lib.ListN.{length, take, length-map}
+use Rattle.laws.specs.Limits.{SHEET-CELLS}
 use Rattle.plain.specs.declared.Manner.{Manner}
 use Rattle.pieces.specs.Sheet.{piecesOf, inManner}
 use Rattle.pieces.proofs.Cells.{length-pieces}
@@ -13,7 +14,7 @@ use Rattle.pieces.proofs.numbers_of.Statement.{statement}
 use Rattle.pieces.proofs.numbers_of.Tie as tie
 
 abbrev Inv-loop : tie.InvT-loop
-Inv-loop items sheet₀ i₀ sheet i = (i ≤ 1024) × (length sheet ≡ 4096) × ((m : Manner) → take i (piecesOf m sheet) ≡ take i (map (inManner m) items))
+Inv-loop items sheet₀ i₀ sheet i = (i ≤ 1024) × (length sheet ≡ SHEET-CELLS) × ((m : Manner) → take i (piecesOf m sheet) ≡ take i (map (inManner m) items))
 
 abbrev μ-loop : tie.MeasureT-loop
 μ-loop items sheet₀ i₀ sheet i = 1024 - i

@@ -4,6 +4,7 @@ use native.Mathlib.Omega.{arith}
 use mathlib.Core.Path.{_≡_, refl, sym, _∙_}
 use lib.ListN.{length}
 use borrow.Author.Needs.{needs}
+use Rattle.laws.specs.Limits.{SHEET-CELLS}
 use Rattle.ledger.specs.Posts.{ledgerOf}
 use Rattle.calls.specs.View.{numbers}
 use Rattle.replay.proofs.Playing.{none-played}
@@ -14,7 +15,7 @@ use Rattle.player.proofs.print_events.Tie as tie
 abbrev Inv-loop : tie.InvT-loop
 Inv-loop page₀ file rows₀ trades₀ awards₀ counts₀ starts₀ words₀ credits₀ debits₀ sheet₀ count played₀ i₀ page rows trades awards counts starts words credits debits sheet played i =
     (Between file played₀ (numbers rows₀ trades₀ awards₀ counts₀ starts₀ words₀ (ledgerOf credits₀ debits₀)) page played (numbers rows trades awards counts starts words (ledgerOf credits debits)) i)
-    × (length sheet ≡ 4096)
+    × (length sheet ≡ SHEET-CELLS)
     × (length page ≡ length page₀)
 
 abbrev μ-loop : tie.MeasureT-loop

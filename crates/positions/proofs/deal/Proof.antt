@@ -7,6 +7,7 @@ use mathlib.Core.Path.{_≡_, refl, sym, ap, _∙_}
 use mathlib.Core.Logic.{⊎-elim}
 use mathlib.Core.List.{List}
 use lib.ListN.{length, getD}
+use Rattle.laws.specs.Limits.{POSITION-CELLS, SHEET-CELLS}
 use Rattle.plain.specs.Book.{noPosition}
 use Rattle.rows.specs.Rows.{rowsOf}
 use Rattle.pieces.specs.Sheet.{piecesOf}
@@ -27,8 +28,8 @@ Inv-loop rows₀ sheet₀ count day short quantity manner start place own dealt�
     (record { items = rowsOf rows; shares = piecesOf manner sheet; dealt = dealt; left = left; place = i })
     × (i₀ ≤ i)
     × (i ≡ i₀ → getD (rowsOf rows) i noPosition .settlement .0 ≡ settlement)
-    × (length rows ≡ 12288)
-    × (length sheet ≡ 4096)
+    × (length rows ≡ POSITION-CELLS)
+    × (length sheet ≡ SHEET-CELLS)
     × ClosedBefore (own .security) (rowsOf rows) i
     × (0 < left)
 
@@ -41,8 +42,8 @@ Inv-deal rows₀ sheet₀ count day short quantity manner start place own dealt�
     Walk manner short (day .0) (own .security) count
     (record { items = rowsOf rows₀; shares = piecesOf manner sheet₀; dealt = dealt₀; left = left₀; place = i₀ })
     (record { items = rowsOf rows; shares = piecesOf manner sheet; dealt = dealt; left = left; place = i })
-    × (length rows ≡ 12288)
-    × (length sheet ≡ 4096)
+    × (length rows ≡ POSITION-CELLS)
+    × (length sheet ≡ SHEET-CELLS)
     × ClosedBefore (own .security) (rowsOf rows) i
     × (0 < left)
 

@@ -4,6 +4,7 @@ use native.Mathlib.Omega.{arith}
 use mathlib.Core.Path.{_≡_}
 use lib.ListN.{length, take}
 use borrow.Author.Needs.{needs}
+use Rattle.laws.specs.Limits.{SHEET-CELLS}
 use Rattle.events.specs.declared.Event.the-variants as event
 use Rattle.events.specs.File.{eventsOf}
 use Rattle.ledger.specs.Posts.{ledgerOf}
@@ -16,7 +17,7 @@ use Rattle.replay.proofs.play.Tie as tie
 abbrev Inv-loop : tie.InvT-loop
 Inv-loop rows₀ trades₀ awards₀ counts₀ starts₀ words₀ credits₀ debits₀ sheet₀ file stop after₀ i₀ rows trades awards counts starts words credits debits sheet after i =
     (PlayedUpTo after₀ (numbers rows₀ trades₀ awards₀ counts₀ starts₀ words₀ (ledgerOf credits₀ debits₀)) (take i (eventsOf file)) after (numbers rows trades awards counts starts words (ledgerOf credits debits)))
-    × (length sheet ≡ 4096)
+    × (length sheet ≡ SHEET-CELLS)
     × (i ≤ stop)
 
 abbrev μ-loop : tie.MeasureT-loop

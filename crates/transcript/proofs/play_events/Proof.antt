@@ -7,6 +7,7 @@ use lib.ListN.{length}
 use denote.Ref.{now}
 use borrow.Author.Needs.{needs}
 use borrow.Author.Tests.{leb-true, leb-false}
+use Rattle.laws.specs.Limits.{SHEET-CELLS}
 use Rattle.plain.specs.declared.Manner.the-variants.{Delivered}
 use Rattle.calls.specs.declared.Answered.{Answered}
 use Rattle.calls.specs.declared.Core.{Core}
@@ -24,7 +25,7 @@ use Rattle.transcript.proofs.play_events.Tie as tie
 abbrev Inv-loop : tie.InvT-loop
 Inv-loop page₀ file rows₀ trades₀ awards₀ counts₀ starts₀ words₀ credits₀ debits₀ sheet₀ from count room last₀ next₀ used₀ page rows trades awards counts starts words credits debits sheet last next used =
     (Reached file (last₀ .core) (numbers rows₀ trades₀ awards₀ counts₀ starts₀ words₀ (ledgerOf credits₀ debits₀)) from next page₀ page (last .core) (numbers rows trades awards counts starts words (ledgerOf credits debits)) used)
-    × (length sheet ≡ 4096)
+    × (length sheet ≡ SHEET-CELLS)
 
 abbrev μ-loop : tie.MeasureT-loop
 μ-loop page₀ file rows₀ trades₀ awards₀ counts₀ starts₀ words₀ credits₀ debits₀ sheet₀ from count room last₀ next₀ used₀ page rows trades awards counts starts words credits debits sheet last next used = count - next
@@ -39,7 +40,7 @@ tables k = numbers (k .loop .rows) (k .loop .trades) (k .loop .awards) (k .loop 
 held : (e : tie.After-event-at Inv-loop μ-loop) → Held (turn e .loop .last .core) (tables (turn e))
 held e = turn e .loop .inv .0 .played' .held
 
-long : (e : tie.After-event-at Inv-loop μ-loop) → length (turn e .loop .sheet) ≡ 4096
+long : (e : tie.After-event-at Inv-loop μ-loop) → length (turn e .loop .sheet) ≡ SHEET-CELLS
 long e = turn e .loop .inv .1
 
 events-in-requires : tie.Need-events-in-requires Inv-loop μ-loop
