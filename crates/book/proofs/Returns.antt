@@ -20,8 +20,8 @@ use Rattle.plain.specs.Histories as histories
 use Rattle.tables.specs.Tables.{pieces}
 use Rattle.tables.specs.Lent.{pieceTable}
 use Rattle.pieces.proofs.Cells.{length-pieces}
-use Rattle.calls.specs.View.{keptOf, Called, CalledOn}
-use Rattle.calls.proofs.Returns.{refused}
+use Rattle.machine.specs.View.{keptOf, Called, CalledOn}
+use Rattle.machine.proofs.Returns.{refused}
 use Rattle.calls.proofs.Stepping as calls
 use Rattle.book.specs.declared.Book.{Book}
 use Rattle.book.specs.declared.Discharged.{Discharged}

@@ -8,9 +8,9 @@ use Rattle.plain.specs.Book as plain
 use Rattle.plain.specs.Calls.{Call}
 use Rattle.plain.specs.Refusals.{refusal}
 use Rattle.plain.specs.Histories.{next, pieces, quantity}
-use Rattle.calls.specs.declared.Core.{Core}
+use Rattle.machine.specs.declared.Core.{Core}
 use Rattle.ledger.specs.Posts.{ledgerOf}
-use Rattle.calls.specs.View.{Numbers, numbers, bookOf, Held}
+use Rattle.machine.specs.View.{Numbers, numbers, bookOf, Held}
 pub use Rattle.kept.specs.View.{answer, numberOf, quantityOf}
 use Rattle.book.specs.declared.Book.{Book}
 

@@ -11,10 +11,10 @@ use Rattle.rows.proofs.Cells.{length-rows, length-trades, length-awards}
 use Rattle.positions.specs.Dealing.{ClosedBefore}
 use Rattle.plain.specs.declared.Position.{Position}
 use Rattle.kept.proofs.Fresh.{Unused, unused-view, unused-valid}
-use Rattle.calls.specs.declared.Core.{Core}
+use Rattle.machine.specs.declared.Core.{Core}
 use Rattle.tables.specs.Tables as table
 use Rattle.failing.proofs.Keeping.{counted-new, late-before-new}
-use Rattle.calls.specs.View.{Numbers, followedIn, keptOf, bookOf, Started, Follows, Held, Blank}
+use Rattle.machine.specs.View.{Numbers, followedIn, keptOf, bookOf, Started, Follows, Held, Blank}
 
 zeros-at : (n i : ℕ) → getD {A = ℕ} (replicate n 0) i 0 ≡ 0
 zeros-at zero i = refl

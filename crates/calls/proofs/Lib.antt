@@ -1,13 +1,2 @@
-pub mod Returns
-pub mod Entered
-pub mod Started
-pub mod Walking
-pub mod Delivering
-pub mod SettingOff
-pub mod Confirming
-pub mod Settling
-pub mod Auctioning
-pub mod ClosingDay
 pub mod Fresh
-pub mod Found
 pub mod Stepping

@@ -17,9 +17,9 @@ use Rattle.plain.specs.Calls.{call, isDischarge, handsOut, amount, done}
 use Rattle.plain.specs.Refusals.{reasons, refusal}
 use Rattle.plain.specs.Histories.{next, pieces, quantity}
 use Rattle.kept.specs.View.{Kept, view, answer}
-use Rattle.calls.specs.declared.Core.{Core}
+use Rattle.machine.specs.declared.Core.{Core}
 use Rattle.calls.specs.Stepping.{mannerOf, Stepped}
-use Rattle.calls.specs.View.{Numbers, keptOf, bookOf, Returned, CalledBare, CalledOn}
+use Rattle.machine.specs.View.{Numbers, keptOf, bookOf, Returned, CalledBare, CalledOn}
 
 -- an event that is no discharge is refused alike whatever the sheet's length
 pub any-sheet : (b : plain.Book) (e : Event) (m n : ℕ) → isDischarge e ≡ false → refusal b (call e m) ≡ refusal b (call e n)

@@ -5,7 +5,7 @@ use mathlib.Core.List.{List}
 use Rattle.register.specs.Register.{registerRead}
 use Rattle.plain.specs.Book.{openingRead, new}
 use Rattle.calls.specs.declared.Opened.{Opened}
-use Rattle.calls.specs.View.{Numbers, bookOf, Held, Blank}
+use Rattle.machine.specs.View.{Numbers, bookOf, Held, Blank}
 
 -- what opening answers to the bytes of a register: refusal 1 to 4, else 0, and
 -- "A new book is at business day 1 and has no trade, position or price."

@@ -8,8 +8,8 @@ use Rattle.plain.specs.declared.Manner.{Manner}
 use Rattle.plain.specs.declared.Manner.the-variants.{Delivered, BoughtIn, Cash, Paired}
 use Rattle.plain.specs.declared.Outcome.{Outcome}
 use Rattle.plain.specs.Calls.{call}
-use Rattle.calls.specs.declared.Core.{Core}
-use Rattle.calls.specs.View.{Numbers, CalledOn}
+use Rattle.machine.specs.declared.Core.{Core}
+use Rattle.machine.specs.View.{Numbers, CalledOn}
 
 -- the manner in which an event discharges. One that is no discharge hands out no piece, so that its manner does not matter
 abbrev pub mannerOf : Event → Manner

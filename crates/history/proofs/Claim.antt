@@ -45,12 +45,12 @@ use Rattle.plain.proofs.Claim as told
 use Rattle.pieces.specs.Sheet.{piecesOf}
 use Rattle.pieces.proofs.Cells.{length-pieces}
 use Rattle.kept.specs.View.{answer, numberOf, quantityOf}
-use Rattle.calls.specs.View.{Called}
-use Rattle.calls.specs.Answers.{answered-number, answered-quantity}
-use Rattle.calls.specs.declared.PositionAnswer.the-variants.{Found, Refused}
-use Rattle.calls.specs.declared.AwardAnswer.the-variants as award
-use Rattle.calls.specs.declared.PriceAnswer.the-variants as price
-use Rattle.calls.specs.Reading.{positionAnswer, awardAnswer, priceAnswer, signed, balanceAnswer}
+use Rattle.machine.specs.View.{Called}
+use Rattle.machine.specs.Answers.{answered-number, answered-quantity}
+use Rattle.reading.specs.declared.PositionAnswer.the-variants.{Found, Refused}
+use Rattle.reading.specs.declared.AwardAnswer.the-variants as award
+use Rattle.reading.specs.declared.PriceAnswer.the-variants as price
+use Rattle.reading.specs.Reading.{positionAnswer, awardAnswer, priceAnswer, signed, balanceAnswer}
 use Rattle.book.specs.View as whole
 use Rattle.book.proofs.Returns as book
 use Rattle.history.specs.Runs.{Stand, view, Return, piecesOn, Answers, bare, onNumbers, byValue, lent, Runs, stop, step, last, sheets, RunsTo, Begins, inPlace, asOneValue}

@@ -33,11 +33,11 @@ use Rattle.plain.specs.Sound.{Small}
 use Rattle.plain.specs.Claim.{OnePrice, NettedByKind}
 use Rattle.pieces.specs.Sheet.{piecesOf}
 use Rattle.kept.specs.View.{answer, numberOf, quantityOf}
-use Rattle.calls.specs.declared.PositionAnswer.the-variants.{Found}
-use Rattle.calls.specs.declared.AwardAnswer.{AwardAnswer}
-use Rattle.calls.specs.declared.AwardAnswer.the-variants as award
-use Rattle.calls.specs.declared.PriceAnswer.the-variants as price
-use Rattle.calls.specs.Reading.{positionAnswer, awardAnswer, priceAnswer, signed, balanceAnswer}
+use Rattle.reading.specs.declared.PositionAnswer.the-variants.{Found}
+use Rattle.reading.specs.declared.AwardAnswer.{AwardAnswer}
+use Rattle.reading.specs.declared.AwardAnswer.the-variants as award
+use Rattle.reading.specs.declared.PriceAnswer.the-variants as price
+use Rattle.reading.specs.Reading.{positionAnswer, awardAnswer, priceAnswer, signed, balanceAnswer}
 use Rattle.history.specs.Runs.{Stand, view, Sheet, noSheet, numberSheet, pieceSheet, handedBack, Return, piecesOn, last, sheets}
 
 -- what is said of each call of a list, with the calls that follow it and what they returned

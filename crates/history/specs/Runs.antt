@@ -11,10 +11,10 @@ use Rattle.plain.specs.declared.Outcome.{Outcome}
 use Rattle.plain.specs.Book as plain
 use Rattle.plain.specs.Calls.{Call, call}
 use Rattle.pieces.specs.Sheet.{piecesOf}
-use Rattle.calls.specs.declared.Core.{Core}
+use Rattle.machine.specs.declared.Core.{Core}
 use Rattle.calls.specs.declared.Opened as calls
 use Rattle.calls.specs.Opening as opening
-use Rattle.calls.specs.View.{Numbers, bookOf, CalledBare, CalledOn, Blank}
+use Rattle.machine.specs.View.{Numbers, bookOf, CalledBare, CalledOn, Blank}
 use Rattle.book.specs.declared.Book.{Book}
 use Rattle.book.specs.declared.Opened as book
 use Rattle.book.specs.Opening as whole

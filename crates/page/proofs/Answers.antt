@@ -14,8 +14,8 @@ use Rattle.plain.proofs.Numbered.{place-nth}
 use Rattle.rows.specs.Rows.{rowsOf}
 use Rattle.tables.specs.Tables.{positions}
 use Rattle.kept.specs.View.{view}
-use Rattle.calls.specs.declared.Core.{Core}
-use Rattle.calls.specs.View.{Numbers, bookOf, Held}
+use Rattle.machine.specs.declared.Core.{Core}
+use Rattle.machine.specs.View.{Numbers, bookOf, Held}
 use Rattle.replay.specs.Replay.{replayRefusal, decides}
 use Rattle.page.specs.Columns.{LINE}
 use Rattle.page.specs.Page.{pageText, Showable}

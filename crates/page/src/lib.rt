@@ -13,7 +13,7 @@ ghost use Rattle.plain.specs.Histories.{run, callsOf};
 ghost use Rattle.tables.specs.Tables.{positions};
 ghost use Rattle.tables.specs.Lent.{positionTable};
 ghost use Rattle.replay.specs.Replay.{NewlyHeld, OpensAs};
-ghost use Rattle.calls.specs.View.{Numbers, onRows, bookOf, Held};
+ghost use Rattle.machine.specs.View.{Numbers, onRows, bookOf, Held};
 ghost use Rattle.report.specs.Digits.{digits};
 ghost use Rattle.page.specs.Columns.{LINE, Fits, line};
 ghost use Rattle.page.specs.Page.{columns, isinOf, kindLetter, pageLine, pageLines, Showable};

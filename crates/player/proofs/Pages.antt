@@ -8,8 +8,8 @@ use lib.ListN.{length, take, drop}
 use lib.Seq.{take-all, take-nil}
 use Rattle.events.specs.declared.Event.{Event}
 use Rattle.events.specs.File.{eventsOf}
-use Rattle.calls.specs.declared.Core.{Core}
-use Rattle.calls.specs.View.{Numbers}
+use Rattle.machine.specs.declared.Core.{Core}
+use Rattle.machine.specs.View.{Numbers}
 use Rattle.replay.specs.Replay.{PlayedUpTo}
 use Rattle.replay.proofs.Playing.{then-played}
 use Rattle.report.specs.Pages.{Wrote, wrote-put, put-length}

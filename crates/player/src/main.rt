@@ -8,7 +8,7 @@ ghost use lib.ListN.{length};
 ghost use Rattle.laws.specs.Limits.{SHEET-CELLS};
 ghost use Rattle.events.specs.File.{eventsOf};
 ghost use Rattle.ledger.specs.Posts.{ledgerOf};
-ghost use Rattle.calls.specs.View.{Numbers, numbers, onRows, onLedger, Held};
+ghost use Rattle.machine.specs.View.{Numbers, numbers, onRows, onLedger, Held};
 ghost use Rattle.replay.specs.Replay.{PlayedUpTo, NewlyHeld};
 use calls::Core;
 use laws::ACCOUNTS;

@@ -18,7 +18,7 @@ use Rattle.plain.specs.Refusals.{refusal}
 use Rattle.plain.specs.Histories.{quantity}
 use Rattle.pieces.specs.Sheet.{piecesOf, inManner}
 use Rattle.kept.specs.View.{numberOf, quantityOf}
-use Rattle.calls.specs.Answers.{answered-number, answered-quantity}
+use Rattle.machine.specs.Answers.{answered-number, answered-quantity}
 use Rattle.book.specs.declared.Book.{Book}
 use Rattle.book.specs.View.{view}
 use Rattle.sheet.specs.Lent.{ReturnedOn}

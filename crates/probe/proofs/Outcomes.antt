@@ -19,7 +19,7 @@ use Rattle.plain.specs.Calls.{call}
 use Rattle.plain.specs.Refusals.{refusal}
 use Rattle.plain.specs.Histories.{quantity}
 use Rattle.kept.specs.View.{answer, numberOf, quantityOf}
-use Rattle.calls.specs.Answers.{answered-number, answered-quantity}
+use Rattle.machine.specs.Answers.{answered-number, answered-quantity}
 use Rattle.book.specs.declared.Book.{Book}
 use Rattle.book.specs.View.{view, Returned}
 use Rattle.book.proofs.Returns.{other-sheet, long-sheet}

@@ -9,7 +9,7 @@ use Rattle.plain.specs.Book as plain
 use Rattle.plain.specs.Calls.{Call}
 use Rattle.plain.specs.Book.{openingRead, new}
 use Rattle.plain.specs.Histories.{run, callsOf}
-use Rattle.calls.specs.Reading.{priceAnswer}
+use Rattle.reading.specs.Reading.{priceAnswer}
 use Rattle.book.specs.View.{view}
 use Rattle.replay.specs.declared.Replayed.{Replayed}
 use Rattle.replay.specs.Replay.{replayRefusal, ReplayedFrom}

@@ -7,9 +7,9 @@ use Rattle.plain.specs.declared.LatestPrice.{LatestPrice}
 use Rattle.plain.specs.declared.LatestPrice.the-variants.{Never, Given}
 use Rattle.plain.specs.Book.{openingRead, new}
 use Rattle.plain.specs.Histories.{run, callsOf}
-use Rattle.calls.specs.declared.PriceAnswer.{PriceAnswer}
-use Rattle.calls.specs.declared.PriceAnswer.the-variants.{Found, Refused}
-use Rattle.calls.specs.Reading.{priceAnswer}
+use Rattle.reading.specs.declared.PriceAnswer.{PriceAnswer}
+use Rattle.reading.specs.declared.PriceAnswer.the-variants.{Found, Refused}
+use Rattle.reading.specs.Reading.{priceAnswer}
 use Rattle.replay.specs.Replay.{replayRefusal}
 
 -- 0 where no price was given, else the price times 65,536 and its day: a price is at least 1, so that no refusal number is one of these

@@ -12,7 +12,7 @@ ghost use Rattle.plain.specs.Refusals as refusals;
 ghost use Rattle.plain.specs.Histories.{quantity};
 ghost use Rattle.kept.specs.View.{answer};
 ghost use Rattle.ledger.specs.Posts.{ledgerOf};
-ghost use Rattle.calls.specs.View.{numbers, bookOf, Held};
+ghost use Rattle.machine.specs.View.{numbers, bookOf, Held};
 ghost use Rattle.book.specs.View.{view, Valid};
 ghost use Rattle.sheet.specs.Lent.{ReturnedOn};
 ghost use Rattle.replay.specs.Replay.{NewlyHeld, OpensAs};

@@ -8,9 +8,9 @@ use Rattle.events.specs.File.{refusal, eventsOf}
 use Rattle.plain.specs.Book.{openingRead, new}
 use Rattle.plain.specs.Histories.{run, callsOf}
 use Rattle.calls.specs.declared.Opened.{Opened}
-use Rattle.calls.specs.declared.Core.{Core}
+use Rattle.machine.specs.declared.Core.{Core}
 use Rattle.calls.specs.Opening.{OpenedOn}
-use Rattle.calls.specs.View.{Numbers, Blank}
+use Rattle.machine.specs.View.{Numbers, Blank}
 use Rattle.book.specs.declared.Book.{Book}
 use Rattle.book.specs.declared.Opened as whole
 use Rattle.book.specs.Opening as whole-opening

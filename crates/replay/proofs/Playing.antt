@@ -9,8 +9,8 @@ use Rattle.events.specs.declared.Event.{Event}
 use Rattle.plain.specs.declared.Outcome.{Outcome}
 use Rattle.plain.specs.Calls.{Call, call}
 use Rattle.plain.specs.Histories.{callsOf, run}
-use Rattle.calls.specs.declared.Core.{Core}
-use Rattle.calls.specs.View.{Numbers, Held}
+use Rattle.machine.specs.declared.Core.{Core}
+use Rattle.machine.specs.View.{Numbers, Held}
 use Rattle.calls.specs.Stepping.{Stepped}
 use Rattle.history.specs.Runs.{RunsTo, onNumbers}
 use Rattle.history.proofs.Playing.{runs-none, runs-one, runs-then, runs-book}

@@ -11,10 +11,10 @@ use Rattle.events.specs.declared.Event.{Event}
 use Rattle.events.specs.File.{refusal, eventsOf}
 use Rattle.plain.specs.Book.{Book, openingRead, new}
 use Rattle.plain.specs.Histories.{callsOf, run}
-use Rattle.calls.specs.declared.Core.{Core}
+use Rattle.machine.specs.declared.Core.{Core}
 use Rattle.calls.specs.declared.Opened.{Opened}
 use Rattle.calls.specs.Opening.{OpenedOn}
-use Rattle.calls.specs.View.{Numbers, bookOf, Held, Blank}
+use Rattle.machine.specs.View.{Numbers, bookOf, Held, Blank}
 use Rattle.book.specs.View.{view, Valid}
 use Rattle.history.specs.Runs.{Stand, standOf, RunsTo, Begins}
 use Rattle.replay.specs.declared.Checked.{Checked}

@@ -7,7 +7,7 @@ ghost use Rattle.events.specs.File.{eventsOf};
 ghost use Rattle.plain.specs.Book as plain;
 ghost use Rattle.plain.specs.Histories.{run, callsOf};
 ghost use Rattle.ledger.specs.Posts.{ledgerOf};
-ghost use Rattle.calls.specs.View.{Numbers, numbers, Held, Blank};
+ghost use Rattle.machine.specs.View.{Numbers, numbers, Held, Blank};
 ghost use Rattle.book.specs.View.{view, Valid};
 ghost use Rattle.history.specs.Runs.{standOf, RunsTo};
 ghost use Rattle.replay.specs.Replay.{ReadyFor, PlayedUpTo, NewlyHeld, OpensAs, ReplayedFrom};

@@ -17,10 +17,10 @@ use Rattle.plain.specs.Refusals.{refusal}
 use Rattle.plain.specs.Histories.{next, quantity, run, callsOf}
 use Rattle.pieces.specs.Sheet.{piecesOf}
 use Rattle.kept.specs.View.{numberOf, quantityOf}
-use Rattle.calls.specs.declared.Core.{Core}
-use Rattle.calls.specs.View.{Numbers, bookOf, Held}
+use Rattle.machine.specs.declared.Core.{Core}
+use Rattle.machine.specs.View.{Numbers, bookOf, Held}
 use Rattle.calls.specs.Stepping.{mannerOf, Stepped}
-use Rattle.calls.specs.Answers.{answered-number, answered-quantity}
+use Rattle.machine.specs.Answers.{answered-number, answered-quantity}
 use Rattle.report.specs.Lines.{LINE, eventLines}
 use Rattle.report.specs.Pages.{Put, Wrote, wrote-put, put-lent, put-text, put-none, put-length, lent, back, length-lent}
 use Rattle.transcript.specs.Transcript.{eventText, eventsText}

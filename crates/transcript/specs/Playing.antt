@@ -5,10 +5,10 @@ use mathlib.Core.List.{List}
 use lib.ListN.{length, take, drop}
 use Rattle.events.specs.declared.Event.{Event}
 use Rattle.events.specs.File.{eventsOf}
-use Rattle.calls.specs.declared.Core.{Core}
+use Rattle.machine.specs.declared.Core.{Core}
 use Rattle.calls.specs.declared.Opened.{Opened}
 use Rattle.calls.specs.Opening.{OpenedOn}
-use Rattle.calls.specs.View.{Numbers, bookOf}
+use Rattle.machine.specs.View.{Numbers, bookOf}
 use Rattle.replay.specs.Replay.{NewlyHeld, OpensAs, PlayedUpTo}
 use Rattle.report.specs.Lines.{LINE}
 use Rattle.report.specs.Pages.{Put}

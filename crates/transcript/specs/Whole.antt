@@ -10,8 +10,8 @@ use Rattle.events.specs.declared.Event.{Event}
 use Rattle.events.specs.File.{eventsOf}
 use Rattle.plain.specs.Book as plain
 use Rattle.plain.specs.Histories.{run, callsOf}
-use Rattle.calls.specs.declared.Core.{Core}
-use Rattle.calls.specs.View.{Numbers, bookOf, Blank}
+use Rattle.machine.specs.declared.Core.{Core}
+use Rattle.machine.specs.View.{Numbers, bookOf, Blank}
 use Rattle.report.specs.Lines.{refusalLine}
 use Rattle.report.specs.Pages.{put-front}
 use Rattle.transcript.specs.declared.Started.{Started}

@@ -9,7 +9,7 @@ ghost use Rattle.plain.specs.declared.Outcome.the-variants as outcome;
 ghost use Rattle.pieces.specs.Sheet.{piecesOf};
 ghost use Rattle.kept.specs.View.{numberOf, quantityOf};
 ghost use Rattle.ledger.specs.Posts.{ledgerOf};
-ghost use Rattle.calls.specs.View.{Numbers, numbers, onRows, onLedger, bookOf, Held};
+ghost use Rattle.machine.specs.View.{Numbers, numbers, onRows, onLedger, bookOf, Held};
 ghost use Rattle.report.specs.Lines.{LINE, eventLines};
 ghost use Rattle.report.specs.Pages.{Wrote};
 ghost use Rattle.transcript.specs.Transcript.{registerLength, endText};

@@ -1,7 +1,7 @@
 -- `book::open_book` meets its contract.
 use Rattle.book.specs.View.{view}
 use Rattle.ledger.specs.Posts.{ledgerOf}
-use Rattle.calls.specs.View.{numbers, Blank}
+use Rattle.machine.specs.View.{numbers, Blank}
 use borrow.Author.Needs.{needs}
 use Rattle.book.proofs.open_book.Statement.{statement}
 use Rattle.book.proofs.open_book.Tie as tie

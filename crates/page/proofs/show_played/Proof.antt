@@ -9,7 +9,7 @@ use Rattle.events.specs.File.{eventsOf}
 use Rattle.plain.specs.Book as plain
 use Rattle.plain.specs.Histories.{run, callsOf}
 use Rattle.ledger.specs.Posts.{ledgerOf}
-use Rattle.calls.specs.View.{Numbers, numbers, Blank}
+use Rattle.machine.specs.View.{Numbers, numbers, Blank}
 use Rattle.page.specs.Answer.{Shown}
 use borrow.Author.Needs.{needs}
 use Rattle.page.proofs.show_played.Statement.{statement}

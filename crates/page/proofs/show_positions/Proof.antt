@@ -5,7 +5,7 @@ use mathlib.Core.Path.{_≡_, ap, ap₂, _∙_}
 use mathlib.Core.List.{List, _++_}
 use lib.ListN.{drop}
 use Rattle.kept.specs.View.{view}
-use Rattle.calls.specs.View.{onRows, bookOf, heldIn}
+use Rattle.machine.specs.View.{onRows, bookOf, heldIn}
 use Rattle.page.specs.Columns.{LINE}
 use Rattle.page.specs.Page.{pageLines, pageText}
 use Rattle.page.proofs.Answers.{none-shown, all-shown, as-many, showable, page-bytes}

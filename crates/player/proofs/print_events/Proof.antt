@@ -6,7 +6,7 @@ use lib.ListN.{length}
 use borrow.Author.Needs.{needs}
 use Rattle.laws.specs.Limits.{SHEET-CELLS}
 use Rattle.ledger.specs.Posts.{ledgerOf}
-use Rattle.calls.specs.View.{numbers}
+use Rattle.machine.specs.View.{numbers}
 use Rattle.replay.proofs.Playing.{none-played}
 use Rattle.player.proofs.Pages.{Between, played-within, next-page, all-played}
 use Rattle.player.proofs.print_events.Statement.{statement}

@@ -1,6 +1,6 @@
 -- `player::print_played` meets its contract.
 use Rattle.ledger.specs.Posts.{ledgerOf}
-use Rattle.calls.specs.View.{numbers}
+use Rattle.machine.specs.View.{numbers}
 use borrow.Author.Needs.{needs}
 use Rattle.player.proofs.print_played.Statement.{statement}
 use Rattle.player.proofs.print_played.Tie as tie

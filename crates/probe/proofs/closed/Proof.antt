@@ -9,7 +9,7 @@ use borrow.Author.Needs.{needs}
 use Rattle.laws.specs.Limits.{LAST-DAY}
 use Rattle.plain.specs.Histories.{run}
 use Rattle.ledger.specs.Posts.{ledgerOf}
-use Rattle.calls.specs.View.{Numbers, numbers, bookOf, Held}
+use Rattle.machine.specs.View.{Numbers, numbers, bookOf, Held}
 use Rattle.probe.specs.Last.{closing}
 use Rattle.probe.proofs.Closing.{close-next, close-none, closes-enough}
 use Rattle.probe.proofs.closed.Statement.{statement}

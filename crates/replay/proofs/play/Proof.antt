@@ -8,7 +8,7 @@ use Rattle.laws.specs.Limits.{SHEET-CELLS}
 use Rattle.events.specs.declared.Event.the-variants as event
 use Rattle.events.specs.File.{eventsOf}
 use Rattle.ledger.specs.Posts.{ledgerOf}
-use Rattle.calls.specs.View.{numbers}
+use Rattle.machine.specs.View.{numbers}
 use Rattle.replay.specs.Replay.{PlayedUpTo}
 use Rattle.replay.proofs.Playing.{none-played, more-played}
 use Rattle.replay.proofs.play.Statement.{statement}

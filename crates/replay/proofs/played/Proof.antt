@@ -10,7 +10,7 @@ use Rattle.events.specs.File.{eventsOf}
 use Rattle.plain.specs.Book as plain
 use Rattle.plain.specs.Histories.{run, callsOf}
 use Rattle.ledger.specs.Posts.{ledgerOf}
-use Rattle.calls.specs.View.{Numbers, numbers, Blank}
+use Rattle.machine.specs.View.{Numbers, numbers, Blank}
 use Rattle.book.specs.declared.Book.{Book}
 use Rattle.history.specs.Runs.{standOf, RunsTo}
 use Rattle.replay.proofs.played.Statement.{statement}

@@ -7,7 +7,7 @@ use lib.ListN.{length}
 use denote.Ref.{now}
 use Rattle.kept.specs.View.{view}
 use Rattle.ledger.specs.Posts.{ledgerOf}
-use Rattle.calls.specs.View.{onRows, onLedger, bookOf, heldIn}
+use Rattle.machine.specs.View.{onRows, onLedger, bookOf, heldIn}
 use Rattle.report.specs.Lines.{LINE, positionLines, accountLines}
 use Rattle.report.specs.Pages.{none-wrote, put-wrote, put-text, wrote-put, wrote-lent, put-length}
 use Rattle.transcript.specs.Transcript.{endText}

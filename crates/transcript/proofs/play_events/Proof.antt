@@ -9,10 +9,10 @@ use borrow.Author.Needs.{needs}
 use borrow.Author.Tests.{leb-true, leb-false}
 use Rattle.laws.specs.Limits.{SHEET-CELLS}
 use Rattle.plain.specs.declared.Manner.the-variants.{Delivered}
-use Rattle.calls.specs.declared.Answered.{Answered}
-use Rattle.calls.specs.declared.Core.{Core}
+use Rattle.machine.specs.declared.Answered.{Answered}
+use Rattle.machine.specs.declared.Core.{Core}
 use Rattle.ledger.specs.Posts.{ledgerOf}
-use Rattle.calls.specs.View.{Numbers, numbers, Held}
+use Rattle.machine.specs.View.{Numbers, numbers, Held}
 use Rattle.calls.specs.Stepping.{Stepped}
 use Rattle.calls.proofs.Stepping.{stepped-bare, stepped-on}
 use Rattle.report.specs.Pages.{lent}
