@@ -1,11 +1,15 @@
 -- The fines of a close, by the numbers that they are worked out from.
-use Prim.Native.Nat.{ℕ, _-_, _*_, _≤_}
-use mathlib.Core.Path.{_≡_, ap, sym}
+use Prim.Native.Nat.{ℕ, _-_, _*_, _≤_, _<_}
+use native.Mathlib.Omega.{arith}
+use mathlib.Core.Path.{_≡_, refl, ap, sym}
 use mathlib.Core.List.{List, [], _∷_}
 use mathlib.Core.Bool.{Bool, true, false, not, _&&_}
 use lib.ListN.{length, getD}
 use lib.Dec.{ltb, eqb}
+use borrow.Author.Tests.{le-leb, lt-leb}
 use Rattle.laws.specs.Limits.{SECURITIES}
+use Rattle.laws.specs.Lists.{All}
+use Rattle.laws.specs.Alls.{all-of}
 use Rattle.laws.specs.Asked.{Within}
 use Rattle.rules.specs.Charges.{awardFine, lateFine}
 use Rattle.register.specs.declared.Register.{Register}
@@ -16,11 +20,20 @@ use Rattle.plain.specs.declared.Latest.{Latest}
 use Rattle.plain.specs.Book.{Book, noPrice, nth, positionOf, classOf, latestOf}
 use Rattle.plain.proofs.Numbered.{nth-at}
 use Rattle.plain.specs.Dealing.{due}
+use Rattle.plain.specs.Invariants.{Rising}
 use Rattle.plain.specs.Charging.{posted, credited, debited, awardFines, lateFines}
 use Rattle.tables.specs.Tables.{Positions, Awards, prices, awards}
 use Rattle.tables.specs.Columns.{price-named}
 use Rattle.tables.specs.declared.Prices.{Prices}
 use Rattle.ledger.specs.Parts.{awardFinesOf}
+
+and-true : (a : Bool) → (a && true) ≡ a
+and-true true = refl
+and-true false = refl
+
+and-false : (a : Bool) → (a && false) ≡ false
+and-false true = refl
+and-false false = refl
 
 -- the class and the latest price of a security, as they are read at its place
 pub class-read : (classes : List ℕ) (s : ℕ) → 1 ≤ s → getD classes (s - 1) 0 ≡ nth 0 classes s
@@ -48,23 +61,34 @@ module _
     unfolding awardFines
     award-fined class value fine e c v f = rw (at, ← known, ← c, ← test, e, f, v)
 
--- a position of a security with this class and latest price
+-- a position that is not due is not fined
+pub late-not-due : (b : Book) (p : Position) → b .day < p .settlement .0 → lateFines b p ≡ []
+unfolding lateFines due
+late-not-due b p h = rw (lt-leb _ _ h, and-false)
+
+-- and neither is any later one
+pub rest-not-due : (b : Book) (ps : List Position) → Rising ps → (p : Position) (qs : List Position) → ps ≡ p ∷ qs → b .day < p .settlement .0 → All (λ q. lateFines b q ≡ []) ps
+rest-not-due b ps r p qs e l =
+    rw e (late-not-due b p l, all-of (λ q. p .settlement .0 ≤ q .settlement .0) (λ q. lateFines b q ≡ []) qs (λ q k. late-not-due b q (omega (arith, l, k))) ((rw e at r) .0))
+
+-- a due position of a security with this class and latest price
 module _
     (b : Book)
     (p : Position)
     (class latest : ℕ)
     (fined : Bool)
+    (is-due : p .settlement .0 ≤ b .day)
     (of : class ≡ classOf b (p .security))
     (known : latest ≡ latestOf b (p .security))
-    (test : fined ≡ (p .short && due (b .day) p && eqb class 1 && ltb 0 latest))
+    (test : fined ≡ (p .short && eqb class 1 && ltb 0 latest))
   where
     pub late-free : fined ≡ false → lateFines b p ≡ []
-    unfolding lateFines
-    late-free e = rw (← of, ← known, ← test, e)
+    unfolding lateFines due
+    late-free e = rw (le-leb _ _ is-due, and-true, ← of, ← known, ← test, e)
 
     pub late-fined : (value fine : ℕ) → fined ≡ true → value ≡ p .unsettled * latest → fine ≡ lateFine value → lateFines b p ≡ record { payer = p .member; payee = 0; cents = fine } ∷ []
-    unfolding lateFines
-    late-fined value fine e v f = rw (← of, ← known, ← test, e, f, v)
+    unfolding lateFines due
+    late-fined value fine e v f = rw (le-leb _ _ is-due, and-true, ← of, ← known, ← test, e, f, v)
 
 -- where there is no award, the ledger is as its fines would leave it
 pub none-fined : (l : Ledger) (a : Awards) (p : Positions) (prices : Prices) (register : Register) → a .count ≡ 0 → l ≡ posted l (awardFinesOf a p prices register)

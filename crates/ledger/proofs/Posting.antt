@@ -4,7 +4,7 @@ use native.Mathlib.Omega.{arith}
 use mathlib.Core.Path.{_≡_, refl, subst}
 use mathlib.Core.List.{List, [], _∷_, _++_}
 use lib.ListN.{length, getD, take, drop}
-use Rattle.laws.specs.Lists.{each}
+use Rattle.laws.specs.Lists.{All, each}
 use Rattle.laws.specs.Integers.{place-le}
 use Rattle.rules.specs.declared.Amount.{Amount}
 use Rattle.rules.specs.declared.Amount.the-variants.{Debit, Credit}
@@ -45,6 +45,10 @@ posting-end : (before : Ledger) (all : List Charge) (l : Ledger) → Posting bef
 unfolding posted credited debited
 posting-end before all l h = h .same
 
+none-charged : {A : Type 0} (f : A → List Charge) (xs : List A) → All (λ x. f x ≡ []) xs → each f xs ≡ []
+none-charged f [] h = refl
+none-charged f (x ∷ xs) h = rw (h .0) (none-charged f xs (h .1))
+
 -- The charges that a function makes of each of the first n elements of a table, which are posted up to place i
 
 module _ {A : Type 0} (f : A → List Charge) (n : ℕ) (items : List A) where
@@ -69,6 +73,10 @@ module _ {A : Type 0} (f : A → List Charge) (n : ℕ) (items : List A) where
     pub place-end : n ≤ i → PostingAt before i l → l ≡ posted before (each f (take n items))
     place-end done h =
         posting-end before (ahead 0) l (subst (λ (xs : List A). Posting before (ahead 0) (each f xs) l) (ahead-end n items i long done) h)
+
+    -- no element from a place on is charged anything
+    pub place-rest : All (λ x. f x ≡ []) (drop i (take n items)) → PostingAt before i l → l ≡ posted before (each f (take n items))
+    place-rest none h = posting-end before (ahead 0) l (subst (λ (cs : List Charge). Posting before (ahead 0) cs l) (none-charged f (drop i (take n items)) none) h)
 
 -- A buy-in's charge, by what its amount is
 

@@ -10,7 +10,6 @@ ghost use Rattle.laws.specs.Limits.{ACCOUNTS, SHEET-CELLS};
 ghost use Rattle.rules.specs.Charges.{buyInCharge};
 ghost use Rattle.plain.specs.declared.Manner.the-variants.{Cash};
 ghost use Rattle.plain.specs.Charging.{raise, posted, charge};
-ghost use Rattle.plain.specs.Dealing.{due};
 ghost use Rattle.ledger.specs.Posts.{ledgerOf};
 ghost use Rattle.ledger.specs.Parts.{awardFinesOf, lateFinesOf, closeChargesOf};
 ghost use Rattle.ledger.specs.Tabled.{Chargeable, AwardsFinable, LateFinable, CloseFinable, Priceable, Priced};
@@ -77,14 +76,11 @@ fn award_is_fined(confirmed: bool, latest: u32) -> bool
     if confirmed { false } else { 0 < latest }
 }
 
-// A due class 1 short costs its member, where the security has a price.
-fn short_is_fined(position: Position, class: u8, latest: u32, day: BusinessDay) -> bool
-    ensures { λ r. ⌜ r ≡ (position .short && due (day .0) position && eqb class 1 && ltb 0 latest) ⌝ }
+// A class 1 short that is due costs its member, where the security has a price.
+fn short_is_fined(position: Position, class: u8, latest: u32) -> bool
+    ensures { λ r. ⌜ r ≡ (position .short && eqb class 1 && ltb 0 latest) ⌝ }
 {
     if !position.short {
-        return false;
-    }
-    if day.0 < position.settlement.0 {
         return false;
     }
     if class != 1 {
@@ -123,6 +119,7 @@ pub fn post_award_fines(
     }
 }
 
+// Delivery days never fall along the table, so that the due positions stand before the first that is not.
 pub fn post_late_fines(
     credits: &mut [u64; ACCOUNTS],
     debits: &mut [u64; ACCOUNTS],
@@ -136,12 +133,12 @@ pub fn post_late_fines(
     ensures { λ r. ⌜ ledgerOf (now (credits .exit)) (now (debits .exit)) ≡ posted (ledgerOf (now (credits .entry)) (now (debits .entry))) (lateFinesOf (positionTable (now (rows .entry)) held) prices register day) ⌝ }
 {
     let mut i: usize = 0;
-    while i < held {
+    while i < held && rows::settlement_at(rows, i) <= day.0 {
         let short = rows::row_at(rows, i);
         let k = (short.security - 1) as usize;
         let class = register.classes[k];
         let latest = prices.latest[k];
-        if short_is_fined(short, class, latest, day) {
+        if short_is_fined(short, class, latest) {
             let fine = rules::late_fine(rules::value_of(short.unsettled, latest));
             raise_place(credits, HOUSE, fine);
             raise_place(debits, short.member, fine);

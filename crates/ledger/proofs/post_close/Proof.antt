@@ -41,6 +41,7 @@ post-late-fines-requires c κs =
       prices-many = k .pre .prices-many;
       positions-fit = k .pre .positions-fit;
       accounted = k .pre .accounted;
+      rising = k .pre .rising;
     }
 
 returns : tie.Need-returns

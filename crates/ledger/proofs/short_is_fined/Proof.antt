@@ -1,5 +1,4 @@
-use borrow.Author.Tests.{not-true, not-false, lt-leb, le-leb, ne-eqb, eq-eqb}
-use Rattle.plain.specs.Dealing.{due}
+use borrow.Author.Tests.{not-true, not-false, ne-eqb, eq-eqb}
 use Rattle.ledger.proofs.short_is_fined.Statement.{statement}
 use Rattle.ledger.proofs.short_is_fined.Tie as tie
 
@@ -7,16 +6,10 @@ returns : tie.Need-returns
 returns c = simp (not-true (c .before .before .args .position .short) (c .if1 .taken))
 
 returns-2 : tie.Need-returns-2
-unfolding due
-returns-2 c = simp (not-false (c .before .before .before .before .before .args .position .short) (c .before .before .before .if1 .left), lt-leb _ _ (c .if2 .taken))
+returns-2 c = simp (not-false (c .before .before .before .args .position .short) (c .before .if1 .left), ne-eqb _ _ (c .if2 .taken))
 
 returns-3 : tie.Need-returns-3
-unfolding due
-returns-3 c = simp (not-false (c .before .before .before .before .before .before .args .position .short) (c .before .before .before .before .if1 .left), le-leb _ _ (c .before .if2 .left), ne-eqb _ _ (c .if3 .taken))
-
-returns-4 : tie.Need-returns-4
-unfolding due
-returns-4 c = simp (not-false (c .before .before .before .before .before .before .args .position .short) (c .before .before .before .before .if1 .left), le-leb _ _ (c .before .if2 .left), eq-eqb _ _ (c .if3 .left))
+returns-3 c = simp (not-false (c .before .before .before .args .position .short) (c .before .if1 .left), eq-eqb _ _ (c .if2 .left))
 
 pub short-is-fined-spec : {M : Type 1} → statement M
-short-is-fined-spec = tie.close (tie.spec returns returns-2 returns-3 returns-4)
+short-is-fined-spec = tie.close (tie.spec returns returns-2 returns-3)
