@@ -11,6 +11,7 @@ mod xml;
 use check::{Round, Tests};
 use second::calendar::Calendar;
 use std::process::ExitCode;
+use std::thread;
 use std::time::{SystemTime, UNIX_EPOCH};
 
 const FIXED_SEED: u64 = 1;
@@ -28,10 +29,9 @@ fn main() -> ExitCode {
     let mut tests = Tests::default();
 
     exhaustive(&mut tests, &calendar);
-    for seed in [FIXED_SEED, seed] {
-        println!("seed {seed}");
-        let mut round = Round { tests: &mut tests, seed };
-        seeded(&mut round, &calendar);
+    for round in both_rounds([FIXED_SEED, seed], &calendar) {
+        tests.passed += round.passed;
+        tests.failed += round.failed;
     }
 
     println!("{} passed, {} failed", tests.passed, tests.failed);
@@ -40,6 +40,20 @@ fn main() -> ExitCode {
     } else {
         ExitCode::FAILURE
     }
+}
+
+/// The rounds of two seeds, side by side, since each by itself leaves a core idle.
+fn both_rounds(seeds: [u64; 2], calendar: &Calendar) -> [Tests; 2] {
+    println!("seeds {} and {}", seeds[0], seeds[1]);
+    let round = |seed| {
+        let mut tests = Tests::default();
+        seeded(&mut Round { tests: &mut tests, seed }, calendar);
+        tests
+    };
+    thread::scope(|scope| {
+        let rounds = seeds.map(|seed| scope.spawn(move || round(seed)));
+        rounds.map(|round| round.join().unwrap_or(Tests { passed: 0, failed: 1 }))
+    })
 }
 
 fn exhaustive(tests: &mut Tests, calendar: &Calendar) {

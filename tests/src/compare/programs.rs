@@ -6,6 +6,7 @@ use std::io::{self, Read, Write};
 use std::os::unix::fs::PermissionsExt;
 use std::path::{Path, PathBuf};
 use std::process::{Command, Output, Stdio};
+use std::sync::atomic::{AtomicU32, Ordering};
 use tools::{page, player};
 
 pub const EXAMPLE: &str = include_str!("../../../examples/example.txt");
@@ -102,8 +103,11 @@ pub struct Scratch(pub PathBuf);
 
 impl Scratch {
     pub fn new(name: &str) -> Scratch {
+        // Two rounds may have a folder of the same name at a time.
+        static MADE: AtomicU32 = AtomicU32::new(0);
+        let number = MADE.fetch_add(1, Ordering::Relaxed);
         // Not the system's place for such files, from which programs may not be run everywhere.
-        let folder = root().join("target").join(format!("scratch-{name}-{}", std::process::id()));
+        let folder = root().join("target").join(format!("scratch-{name}-{}-{number}", std::process::id()));
         fs::create_dir_all(&folder).expect("a folder can be made where all is built");
         Scratch(folder)
     }
