@@ -3,8 +3,8 @@ use Prim.Native.Nat.{ℕ, zero, suc}
 use mathlib.Core.Path.{_≡_, ap, sym}
 use mathlib.Core.Logic.{_≢_}
 use Rattle.laws.specs.Refusals.{accepted, accepted-not}
-use Rattle.events.specs.declared.Written.{Written}
-use Rattle.events.specs.File.{answer, numberOf, quantityOf}
+use Rattle.files.specs.declared.Written.{Written}
+use Rattle.files.specs.File.{answer, numberOf, quantityOf}
 use Rattle.answers.specs.Packed.{packed}
 
 -- a refusal has quantity 0

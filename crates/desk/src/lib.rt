@@ -9,12 +9,12 @@ ghost use Rattle.rules.specs.Prices.{ceiling, cashPrice};
 ghost use Rattle.rules.specs.Charges.{roundedHalfUp, cashFee, awardFine, lateFine};
 ghost use Rattle.register.specs.Register.{registerRead};
 ghost use Rattle.calendar.specs.Answers.{dayToDate, dateRefusal, dateValue, dateToDay, dayRefusal, dayValue};
-ghost use Rattle.events.specs.File as file;
+ghost use Rattle.files.specs.File as file;
 ghost use Rattle.answers.specs.Packed as definition;
 ghost use Rattle.page.specs.Answer.{pageAnswer, pageAfter};
 use calendar::DateAnswer;
 use calendar::DayAnswer;
-use events::Written;
+use files::Written;
 
 // Refusals 1 to 4 of a register's bytes, or 0 with the number of its securities.
 #[no_mangle]
@@ -106,9 +106,9 @@ pub extern "C" fn desk_late_fine(value: u64) -> u64
 pub extern "C" fn desk_file(bytes: &[u8]) -> u64
     ensures { λ r. ⌜ r ≡ definition.packed (file.refusal (now (bytes .entry))) (accepted (file.refusal (now (bytes .entry))) (file.count (now (bytes .entry))) 0) ⌝ }
 {
-    let number = events::file_refusal(bytes);
+    let number = files::file_refusal(bytes);
     if number == 0 {
-        return answers::packed(0, events::event_count(bytes) as u32);
+        return answers::packed(0, files::event_count(bytes) as u32);
     }
     answers::packed(number, 0)
 }
@@ -118,7 +118,7 @@ pub extern "C" fn desk_file(bytes: &[u8]) -> u64
 pub extern "C" fn desk_copy_file(bytes: &[u8], page: &mut [u8]) -> u64
     ensures { λ r. ⌜ (r ≡ definition.packed (file.copyingRefusal (now (bytes .entry)) (length (now (page .entry)))) (accepted (file.copyingRefusal (now (bytes .entry)) (length (now (page .entry)))) (length (now (bytes .entry))) 0)) × (now (page .exit) ≡ file.pageAfter (file.copyingRefusal (now (bytes .entry)) (length (now (page .entry)))) (now (bytes .entry)) (now (page .entry))) ⌝ }
 {
-    let written = events::copy_file(bytes, page);
+    let written = files::copy_file(bytes, page);
     match written {
         Written::Done(count) => answers::packed(0, count),
         Written::Refused(number) => answers::packed(number, 0),

@@ -1,28 +1,14 @@
--- The layout of an event file: how long its parts are, where a body's fields stand, and which bytes of a body each kind uses.
+-- The layout of a body: how long it is, where its fields stand, and which of its bytes each kind uses.
 -- Document 01, 'Event files and the player'. The code's constants have the same names.
-use Prim.Native.Nat.{ℕ, _+_}
+use Prim.Native.Nat.{ℕ}
 use mathlib.Core.List.{List, [], _∷_}
 use mathlib.Core.Bool.{Bool}
 use lib.ListN.{getD, replicate}
 use Rattle.laws.specs.WordLaws.{nonzero}
 
--- "A file is a count (u16, at most 2,048), body width (u16, 16), an array of kind bytes, then an array of bodies."
-abbrev pub COUNT-AT : ℕ
-COUNT-AT = 0
-
-abbrev pub WIDTH-AT : ℕ
-WIDTH-AT = 2
-
--- the bytes before the kind bytes
-abbrev pub HEADER : ℕ
-HEADER = 4
-
--- the bytes of a body, and those of an event: its kind byte and its body
+-- "body width (u16, 16)": the bytes of a body
 abbrev pub BODY : ℕ
 BODY = 16
-
-abbrev pub EVENT-BYTES : ℕ
-EVENT-BYTES = 1 + BODY
 
 -- "An event is one of nine kinds"; "Refusal 6 admits kind 10" (document 02, Slip 7)
 abbrev pub KINDS : ℕ

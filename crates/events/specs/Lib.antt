@@ -1,7 +1,5 @@
 pub mod Layout
 pub mod Body
-pub mod File
-pub mod Examples
 pub mod Spare
 pub mod Masks
 pub mod Inverse

@@ -1,21 +1,14 @@
-// Event files: the ten kinds of event, and reading and writing a file of them.
+// Events: the ten kinds of event, and the body of sixteen bytes that each is read from and written to.
 // Document 01, 'Event files and the player', and document 02, Slip 7.
 
 ghost use mathlib.Core.Path.{_≡_};
-ghost use mathlib.Core.List.{map};
-ghost use Prim.Native.Nat.{_+_, _≤_, _<_, min};
-ghost use lib.ListN.{length, getD, take, drop, replicate};
+ghost use Prim.Native.Nat.{_+_, _≤_, _<_};
+ghost use lib.ListN.{length, getD, take, drop};
 ghost use lib.Seq.{sets};
-ghost use Rattle.laws.specs.Limits.{EVENTS};
-ghost use Rattle.laws.specs.Lists.{All, each};
-ghost use Rattle.laws.specs.Parts.{padded};
-ghost use Rattle.laws.specs.Refusals;
 ghost use Rattle.laws.specs.Words.{word16At, word32At, word64At, bytes16, bytes32};
-ghost use Rattle.events.specs.Layout.{BODY, HEADER};
-ghost use Rattle.events.specs.Body.{Fits, InWidth, body, bodyOf, eventFrom, fields, fieldsAt, fieldsOf, kindOf, spareSet};
+ghost use Rattle.events.specs.Layout.{BODY};
+ghost use Rattle.events.specs.Body.{Fits, InWidth, body, eventFrom, fields, fieldsAt, fieldsOf, kindOf, spareSet};
 ghost use Rattle.events.specs.Masks.{bodyBytes, masksOf};
-ghost use Rattle.events.specs.File.{ReadsBack, answer, bodiesIn, checks, copyingRefusal, count, eventsOf, fileOf, kindsIn, numberOf, pageAfter, quantityOf, reasons, refusal, size, writingRefusal};
-use laws::EVENTS;
 
 // A member sells to another a quantity of a security. The kind of each side is kept as it stands in the file: 0 own, 1
 // client, and any other byte, which the book refuses.
@@ -106,37 +99,11 @@ pub struct Fields {
 // Two masks: which bytes of a body are to be zero, of the first eight and of the last eight.
 struct Masks(u64, u64);
 
-// What writing answers: the bytes written, or the number of the refusal.
-pub enum Written {
-    Done(u32),
-    Refused(u8),
-}
+pub const KINDS: u8 = 10;
 
-// Refusals of document 01, 'Why a call is turned down'.
-const FILE_SHAPE: u8 = 5;
+// The layout of a body, as `specs/Layout.antt` has it: its bytes, and where its fields stand.
+pub const BODY: usize = 16;
 
-const KIND: u8 = 6;
-
-const SPARE: u8 = 7;
-
-// The layout of a file, as `specs/Layout.antt` has it: where the two words of the header stand, how long it is, the
-// bytes of a body, and those of an event, its kind byte and its body.
-const COUNT_AT: usize = 0;
-
-const WIDTH_AT: usize = 2;
-
-const HEADER: usize = 4;
-
-const BODY: usize = 16;
-
-const EVENT_BYTES: usize = 1 + BODY;
-
-// The body's width as the header has it.
-const WIDTH: u16 = BODY as u16;
-
-const KINDS: u8 = 10;
-
-// Where the fields stand in a body.
 const SUBJECT_AT: usize = 0;
 
 const FIRST_AT: usize = 2;
@@ -159,13 +126,13 @@ const LOW_AT: usize = 0;
 const HIGH_AT: usize = 8;
 
 // The byte at a place; a byte past the end counts 0.
-fn byte_at(bytes: &[u8], at: usize) -> u8
+pub fn byte_at(bytes: &[u8], at: usize) -> u8
     ensures { λ r. ⌜ r ≡ getD (now (bytes .entry)) at 0 ⌝ }
 {
     if at < bytes.len() { bytes[at] } else { 0 }
 }
 
-fn word16_at(bytes: &[u8], at: usize) -> u16
+pub fn word16_at(bytes: &[u8], at: usize) -> u16
     requires { ⌜ at < 4294967296 ⌝ }
     ensures { λ r. ⌜ r ≡ word16At (now (bytes .entry)) at ⌝ }
 {
@@ -215,7 +182,7 @@ fn fields_with(
 }
 
 // The fields of the body that begins at a place.
-fn fields_at(bytes: &[u8], at: usize) -> Fields
+pub fn fields_at(bytes: &[u8], at: usize) -> Fields
     requires { ⌜ at < 2147483648 ⌝ }
     ensures { λ r. ⌜ r ≡ fieldsAt (now (bytes .entry)) at ⌝ }
 {
@@ -238,7 +205,7 @@ fn fields_at(bytes: &[u8], at: usize) -> Fields
 }
 
 // The event of a kind with these fields. A byte that is no kind gives a close; no file that passes has one.
-fn event_from(kind: u8, f: Fields) -> Event
+pub fn event_from(kind: u8, f: Fields) -> Event
     ensures { λ r. ⌜ r ≡ eventFrom kind f ⌝ }
 {
     let subject = f.subject;
@@ -280,43 +247,6 @@ fn event_from(kind: u8, f: Fields) -> Event
     }
 }
 
-// How many events a file says it has.
-pub fn event_count(file: &[u8]) -> u16
-    ensures { λ r. ⌜ r ≡ count (now (file .entry)) ⌝ }
-{
-    word16_at(file, COUNT_AT)
-}
-
-// How many events a file has: as many as its count says, and no more than it has kind bytes for.
-pub fn events_in(file: &[u8]) -> u16
-    ensures { λ r. ⌜ r ≡ length (eventsOf (now (file .entry))) ⌝ }
-{
-    let count = event_count(file);
-    let length = file.len();
-    if length < HEADER {
-        return 0;
-    }
-    let kinds = length - HEADER;
-    if kinds < count as usize {
-        return kinds as u16;
-    }
-    count
-}
-
-// The event at an index, counted from 0; past the last event, a close. Of a file that is refused it reads what is
-// there, a missing byte as 0.
-pub fn event_at(file: &[u8], i: usize) -> Event
-    ensures { λ r. ⌜ r ≡ getD (eventsOf (now (file .entry))) i Event.Close ⌝ }
-{
-    let count = event_count(file) as usize;
-    if count <= i {
-        return Event::Close;
-    }
-    let kind = byte_at(file, HEADER + i);
-    let fields = fields_at(file, HEADER + count + BODY * i);
-    event_from(kind, fields)
-}
-
 // The masks of a kind, of the first eight bytes of a body and of the last eight: ff at each byte that is spare in the kind, 00 at
 // those that it uses, the lowest byte on the right. The compiler keeps the arms as a table; an array it would build at each call.
 fn masks_of(kind: u8) -> Masks
@@ -354,7 +284,7 @@ fn spare_set(kind: u8, low: u64, high: u64) -> bool
 
 // The same of the body that begins at a place. It is lent as a part of sixteen bytes, so that the compiler sees that no byte is
 // missing and reads each word at once.
-fn body_spare_set(kind: u8, file: &[u8], at: usize) -> bool
+pub fn body_spare_set(kind: u8, file: &[u8], at: usize) -> bool
     requires { ⌜ at + BODY ≤ length (now file) ⌝ }
     ensures { λ r. ⌜ r ≡ spareSet kind (take BODY (drop at (now (file .entry)))) ⌝ }
 {
@@ -362,92 +292,7 @@ fn body_spare_set(kind: u8, file: &[u8], at: usize) -> bool
     spare_set(kind, word64_at(body, LOW_AT), word64_at(body, HIGH_AT))
 }
 
-// Refusal 6 or 7 of the event whose kind byte and body stand at two places, or 0.
-fn event_refusal(file: &[u8], place: usize, at: usize) -> u8
-    requires { ⌜ at + BODY ≤ length (now file) ⌝ }
-    ensures { λ r. ⌜ r ≡ Refusals.first (reasons (getD (now (file .entry)) place 0) (take BODY (drop at (now (file .entry))))) ⌝ }
-{
-    let kind = byte_at(file, place);
-    if kind < 1 {
-        return KIND;
-    }
-    if KINDS < kind {
-        return KIND;
-    }
-    if body_spare_set(kind, file, at) {
-        return SPARE;
-    }
-    0
-}
-
-// Refusal 6 or 7 of the first event that has one, or 0.
-fn events_refusal(file: &[u8], count: usize) -> u8
-    requires { ⌜ (count ≤ EVENTS) × (length (now file) ≡ size count) ⌝ }
-    ensures { λ r. ⌜ r ≡ Refusals.first (checks (kindsIn (now (file .entry)) count) (bodiesIn (now (file .entry)) count)) ⌝ }
-{
-    let mut i: usize = 0;
-    while i < count {
-        let refusal = event_refusal(file, HEADER + i, HEADER + count + BODY * i);
-        if refusal != 0 {
-            return refusal;
-        }
-        i += 1;
-    }
-    0
-}
-
-// The refusal of a file: 5, 6, 7, or 0 where it passes.
-pub fn file_refusal(file: &[u8]) -> u8
-    ensures { λ r. ⌜ r ≡ refusal (now (file .entry)) ⌝ }
-{
-    let count = event_count(file) as usize;
-    if EVENTS < count {
-        return FILE_SHAPE;
-    }
-    let width = word16_at(file, WIDTH_AT);
-    if width != WIDTH {
-        return FILE_SHAPE;
-    }
-    if file.len() != HEADER + EVENT_BYTES * count {
-        return FILE_SHAPE;
-    }
-    events_refusal(file, count)
-}
-
-// The array that a file's events are read into, before they are.
-fn closes() -> [Event; EVENTS]
-    ensures { λ r. ⌜ r ≡ replicate EVENTS Event.Close ⌝ }
-{
-    [Event::Close; EVENTS]
-}
-
-// How many events are read: as many as the file says, and no more than the array has places for.
-fn events_read(file: &[u8]) -> usize
-    ensures { λ r. ⌜ r ≡ min (count (now (file .entry))) EVENTS ⌝ }
-{
-    let count = event_count(file) as usize;
-    if EVENTS < count {
-        return EVENTS;
-    }
-    count
-}
-
-// The events of a file; the places past the last one hold a close. `events_in` says how many there are.
-pub fn read_events(file: &[u8]) -> [Event; EVENTS]
-    ensures { λ r. ⌜ r ≡ padded Event.Close EVENTS (eventsOf (now (file .entry))) ⌝ }
-{
-    let mut events = closes();
-    let stop = events_read(file);
-    let mut i: usize = 0;
-    while i < stop {
-        let event = event_at(file, i);
-        events[i] = event;
-        i += 1;
-    }
-    events
-}
-
-fn kind_of(event: Event) -> u8
+pub fn kind_of(event: Event) -> u8
     ensures { λ r. ⌜ r ≡ kindOf event ⌝ }
 {
     match event {
@@ -465,7 +310,7 @@ fn kind_of(event: Event) -> u8
 }
 
 // What an event writes into each field; a field that its kind has no use for is 0.
-fn fields_of(event: Event) -> Fields
+pub fn fields_of(event: Event) -> Fields
     ensures { λ r. ⌜ r ≡ fieldsOf event ⌝ }
     ensures { λ _. ⌜ Fits event ⌝ }
 {
@@ -491,7 +336,7 @@ fn fields_of(event: Event) -> Fields
     }
 }
 
-fn put16(page: &mut [u8], at: usize, word: u16)
+pub fn put16(page: &mut [u8], at: usize, word: u16)
     requires { ⌜ at + 2 ≤ length (now page) ⌝ }
     ensures { λ _. ⌜ now (page .exit) ≡ sets (now (page .entry)) at (bytes16 word) ⌝ }
 {
@@ -510,7 +355,7 @@ fn put32(page: &mut [u8], at: usize, word: u32)
 }
 
 // A body, from a place on; the two last bytes hold no field.
-fn put_body(page: &mut [u8], at: usize, f: Fields)
+pub fn put_body(page: &mut [u8], at: usize, f: Fields)
     requires { ⌜ at + BODY ≤ length (now page) ⌝ }
     ensures { λ _. ⌜ now (page .exit) ≡ sets (now (page .entry)) at (body f) ⌝ }
 {
@@ -522,65 +367,4 @@ fn put_body(page: &mut [u8], at: usize, f: Fields)
     page[at + FIRST_KIND_AT] = f.firstkind;
     page[at + SECOND_KIND_AT] = f.secondkind;
     put16(page, at + LAST_AT, 0);
-}
-
-// The kind bytes of the first events, after the count and the width.
-fn put_kinds(page: &mut [u8], events: [Event; EVENTS], count: usize)
-    requires { ⌜ (count ≤ EVENTS) × (HEADER + count ≤ length (now page)) ⌝ }
-    ensures { λ _. ⌜ now (page .exit) ≡ sets (now (page .entry)) HEADER (map kindOf (take count events)) ⌝ }
-{
-    let mut i: usize = 0;
-    while i < count {
-        let event = events[i];
-        page[HEADER + i] = kind_of(event);
-        i += 1;
-    }
-}
-
-// The bodies of the first events, after the kind bytes.
-fn put_bodies(page: &mut [u8], events: [Event; EVENTS], count: usize)
-    requires { ⌜ (count ≤ EVENTS) × (size count ≤ length (now page)) ⌝ }
-    ensures { λ _. ⌜ now (page .exit) ≡ sets (now (page .entry)) (HEADER + count) (each bodyOf (take count events)) ⌝ }
-    ensures { λ _. ⌜ All Fits (take count events) ⌝ }
-{
-    let mut i: usize = 0;
-    while i < count {
-        let event = events[i];
-        put_body(page, HEADER + count + BODY * i, fields_of(event));
-        i += 1;
-    }
-}
-
-// The file of the first `count` events, written at the page's start. The bytes after the last body are kept, and a
-// call that is refused changes none. The bytes that it reports as written pass, and are read as these events.
-pub fn write_file(events: [Event; EVENTS], count: usize, page: &mut [u8]) -> Written
-    ensures { λ r. ⌜ r ≡ answer (writingRefusal count (length (now (page .entry)))) (size count) ⌝ }
-    ensures { λ _. ⌜ now (page .exit) ≡ pageAfter (writingRefusal count (length (now (page .entry)))) (fileOf (take count events)) (now (page .entry)) ⌝ }
-    ensures { λ r. ⌜ (numberOf r ≡ 0 → ReadsBack (take count events) (take (quantityOf r) (now (page .exit)))) ⌝ }
-{
-    if EVENTS < count {
-        return Written::Refused(FILE_SHAPE);
-    }
-    let bytes = HEADER + EVENT_BYTES * count;
-    if page.len() < bytes {
-        return Written::Refused(FILE_SHAPE);
-    }
-    put16(page, COUNT_AT, count as u16);
-    put16(page, WIDTH_AT, WIDTH);
-    put_kinds(page, events, count);
-    put_bodies(page, events, count);
-    Written::Done(bytes as u32)
-}
-
-// A file that passes, read and written again: the page then begins with the same bytes.
-pub fn copy_file(file: &[u8], page: &mut [u8]) -> Written
-    ensures { λ r. ⌜ r ≡ answer (copyingRefusal (now (file .entry)) (length (now (page .entry)))) (length (now (file .entry))) ⌝ }
-    ensures { λ _. ⌜ now (page .exit) ≡ pageAfter (copyingRefusal (now (file .entry)) (length (now (page .entry)))) (now (file .entry)) (now (page .entry)) ⌝ }
-{
-    let refusal = file_refusal(file);
-    if refusal != 0 {
-        return Written::Refused(refusal);
-    }
-    let count = event_count(file) as usize;
-    write_file(read_events(file), count, page)
 }

@@ -14,8 +14,9 @@ use Rattle.laws.specs.Alls.{all-append, all-each, all-any}
 use Rattle.laws.specs.Refusals.{Reason, _⇒_, choose, first, accepted-zero, accepted-not}
 use Rattle.laws.specs.WordLaws.{nonzero}
 use Rattle.register.specs.Register as register
-use Rattle.events.specs.Layout.{WIDTH-AT, BODY}
-use Rattle.events.specs.File as file
+use Rattle.events.specs.Layout.{BODY}
+use Rattle.files.specs.Layout.{WIDTH-AT}
+use Rattle.files.specs.File as file
 use Rattle.replay.specs.Replay.{replayRefusal, passed-zero, passing-register}
 use Rattle.page.specs.Answer.{endOf, tooShort, pageRefusal, answered, pageAnswer}
 use Rattle.page.specs.Laws.{Told}

@@ -7,7 +7,7 @@ use lib.ListN.{length, drop}
 use lib.Dec.{ltb}
 use Rattle.laws.specs.Refusals.{_⇒_, first, accepted}
 use Rattle.laws.specs.WordLaws.{nonzero}
-use Rattle.events.specs.File.{eventsOf}
+use Rattle.files.specs.File.{eventsOf}
 use Rattle.plain.specs.Book.{Book, openingRead, new}
 use Rattle.plain.specs.Histories.{run, callsOf}
 use Rattle.replay.specs.Replay.{replayRefusal}

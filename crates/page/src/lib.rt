@@ -7,7 +7,7 @@ ghost use lib.ListN.{length, drop};
 ghost use lib.Seq.{sets};
 ghost use Rattle.laws.specs.Limits.{SECURITIES};
 ghost use Rattle.laws.specs.Asked.{Within};
-ghost use Rattle.events.specs.File.{eventsOf};
+ghost use Rattle.files.specs.File.{eventsOf};
 ghost use Rattle.plain.specs.Book as plain;
 ghost use Rattle.plain.specs.Histories.{run, callsOf};
 ghost use Rattle.tables.specs.Tables.{positions};
@@ -141,7 +141,7 @@ fn show_played(page: &mut [u8], file: &[u8], core: Core) -> u64
     let mut credits = calls::no_cents();
     let mut debits = calls::no_cents();
     let mut sheet = pieces::blank_numbers();
-    let count = events::events_in(file) as usize;
+    let count = files::events_in(file) as usize;
     let after = replay::play(
         core,
         &mut rows,

@@ -6,7 +6,7 @@ ghost use mathlib.Core.Path.{_≡_};
 ghost use mathlib.Core.List.{List};
 ghost use lib.ListN.{length};
 ghost use Rattle.laws.specs.Limits.{SHEET-CELLS};
-ghost use Rattle.events.specs.File.{eventsOf};
+ghost use Rattle.files.specs.File.{eventsOf};
 ghost use Rattle.ledger.specs.Posts.{ledgerOf};
 ghost use Rattle.machine.specs.View.{Numbers, numbers, onRows, onLedger, Held};
 ghost use Rattle.replay.specs.Replay.{PlayedUpTo, NewlyHeld};
@@ -62,7 +62,7 @@ fn print_events(
     requires { ⌜ (Held core (numbers (now rows) (now trades) (now awards) (now counts) (now starts) (now words) (ledgerOf (now credits) (now debits)))) × (length (now sheet) ≡ SHEET-CELLS) × (length (now page) ≡ 131072) ⌝ }
     ensures { λ r. ⌜ (PlayedUpTo core (numbers (now (rows .entry)) (now (trades .entry)) (now (awards .entry)) (now (counts .entry)) (now (starts .entry)) (now (words .entry)) (ledgerOf (now (credits .entry)) (now (debits .entry)))) (eventsOf (now (file .entry))) r (numbers (now (rows .exit)) (now (trades .exit)) (now (awards .exit)) (now (counts .exit)) (now (starts .exit)) (now (words .exit)) (ledgerOf (now (credits .exit)) (now (debits .exit))))) × (length (now (page .exit)) ≡ 131072) ⌝ }
 {
-    let count = events::events_in(file) as usize;
+    let count = files::events_in(file) as usize;
     let mut played = core;
     let mut i: usize = 0;
     while i < count {

@@ -2,7 +2,7 @@
 use Prim.Native.Nat.{ℕ, _+_, _*_}
 use mathlib.Core.List.{List}
 use Rattle.laws.specs.Refusals.{accepted}
-use Rattle.events.specs.File.{eventsOf}
+use Rattle.files.specs.File.{eventsOf}
 use Rattle.plain.specs.declared.LatestPrice.{LatestPrice}
 use Rattle.plain.specs.declared.LatestPrice.the-variants.{Never, Given}
 use Rattle.plain.specs.Book.{openingRead, new}

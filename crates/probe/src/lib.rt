@@ -5,7 +5,7 @@ ghost use Prim.Native.Nat.{ℕ, _-_, min};
 ghost use mathlib.Core.Path.{_≡_};
 ghost use lib.ListN.{length};
 ghost use Rattle.laws.specs.Limits.{LAST-DAY, PLACES};
-ghost use Rattle.events.specs.File.{eventsOf};
+ghost use Rattle.files.specs.File.{eventsOf};
 ghost use Rattle.plain.specs.Book as plain;
 ghost use Rattle.plain.specs.Calls.{call};
 ghost use Rattle.plain.specs.Refusals as refusals;
@@ -106,7 +106,7 @@ fn closed(
 fn count_before_last(file: &[u8]) -> usize
     ensures { λ r. ⌜ r ≡ length (eventsOf (now (file .entry))) - 1 ⌝ }
 {
-    let count = events::events_in(file) as usize;
+    let count = files::events_in(file) as usize;
     if count == 0 {
         return 0;
     }
@@ -118,7 +118,7 @@ fn last_event(file: &[u8]) -> Event
     ensures { λ r. ⌜ r ≡ lastEvent (eventsOf (now (file .entry))) ⌝ }
 {
     let place = count_before_last(file);
-    events::event_at(file, place)
+    files::event_at(file, place)
 }
 
 // The book after so many closes and then all events of a file but the last, as one value. All are played in place, on tables that stand here.
@@ -194,7 +194,7 @@ fn last_answer(core: Core, closes: u32, file: &[u8], sheet: usize) -> Outcome
     requires { ⌜ NewlyHeld core ⌝ }
     ensures { λ r. ⌜ ((b : plain.Book) → OpensAs core b → LastAnswered b closes (eventsOf (now (file .entry))) sheet r) ⌝ }
 {
-    if events::events_in(file) == 0 {
+    if files::events_in(file) == 0 {
         return Outcome::Done(0);
     }
     let before = before_last(core, closes, file);
@@ -207,7 +207,7 @@ fn last_lines(page: &mut [u8], file: &[u8], core: Core) -> usize
     requires { ⌜ NewlyHeld core ⌝ }
     ensures { λ r. ⌜ ((b : plain.Book) → OpensAs core b → Wrote BLOCK (lastText b (eventsOf (now (file .entry)))) (now (page .entry)) (now (page .exit)) r) ⌝ }
 {
-    let count = events::events_in(file);
+    let count = files::events_in(file);
     if count == 0 {
         return 0;
     }

@@ -4,7 +4,7 @@ use mathlib.Core.Path.{_≡_, refl, ap, sym, _∙_, subst}
 use mathlib.Core.List.{List, []}
 use borrow.Author.Tests.{ne-eqb}
 use Rattle.laws.specs.Refusals.{accepted-not}
-use Rattle.events.specs.File.{refusal, eventsOf}
+use Rattle.files.specs.File.{refusal, eventsOf}
 use Rattle.plain.specs.Book.{openingRead, new}
 use Rattle.plain.specs.Histories.{run, callsOf}
 use Rattle.calls.specs.declared.Opened.{Opened}

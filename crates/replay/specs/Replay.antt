@@ -8,7 +8,7 @@ use Rattle.laws.specs.Refusals.{_⇒_, choose, first, accepted}
 use Rattle.laws.specs.WordLaws.{nonzero}
 use Rattle.register.specs.Register.{registerRead}
 use Rattle.events.specs.declared.Event.{Event}
-use Rattle.events.specs.File.{refusal, eventsOf}
+use Rattle.files.specs.File.{refusal, eventsOf}
 use Rattle.plain.specs.Book.{Book, openingRead, new}
 use Rattle.plain.specs.Histories.{callsOf, run}
 use Rattle.machine.specs.declared.Core.{Core}

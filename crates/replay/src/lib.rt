@@ -3,7 +3,7 @@ ghost use Prim.Native.Nat.{_≤_};
 ghost use mathlib.Core.Path.{_≡_};
 ghost use lib.ListN.{length, take};
 ghost use Rattle.laws.specs.Limits.{SHEET-CELLS};
-ghost use Rattle.events.specs.File.{eventsOf};
+ghost use Rattle.files.specs.File.{eventsOf};
 ghost use Rattle.plain.specs.Book as plain;
 ghost use Rattle.plain.specs.Histories.{run, callsOf};
 ghost use Rattle.ledger.specs.Posts.{ledgerOf};
@@ -46,7 +46,7 @@ pub fn ready(register: &[u8], file: &[u8]) -> Checked
             core,
         };
     }
-    let number = events::file_refusal(file);
+    let number = files::file_refusal(file);
     Checked { number, core }
 }
 
@@ -71,7 +71,7 @@ pub fn play(
     let mut after = core;
     let mut i: usize = 0;
     while i < stop {
-        let event = events::event_at(file, i);
+        let event = files::event_at(file, i);
         let answered = calls::step(
             after,
             rows,
@@ -106,7 +106,7 @@ fn played(core: Core, file: &[u8]) -> Book
     let mut credits = calls::no_cents();
     let mut debits = calls::no_cents();
     let mut sheet = pieces::blank_numbers();
-    let count = events::events_in(file) as usize;
+    let count = files::events_in(file) as usize;
     let after = play(
         core,
         &mut rows,

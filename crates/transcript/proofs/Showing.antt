@@ -9,7 +9,7 @@ use lib.ListN.{length, getD, take, drop}
 use Rattle.laws.specs.Asked.{Said, passed, failed, ask}
 use Rattle.events.specs.declared.Event.{Event}
 use Rattle.events.specs.declared.Event.the-variants as event
-use Rattle.events.specs.File.{eventsOf}
+use Rattle.files.specs.File.{eventsOf}
 use Rattle.plain.specs.declared.Manner.{Manner}
 use Rattle.plain.specs.declared.Outcome.{Outcome}
 use Rattle.plain.specs.Calls.{call}

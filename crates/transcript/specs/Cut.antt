@@ -13,7 +13,7 @@ use Rattle.laws.specs.Refusals.{accepted-not}
 use Rattle.laws.specs.Words.{word16, word16At}
 use Rattle.register.specs.Register.{registerRead, rightSize}
 use Rattle.register.specs.Register as register
-use Rattle.events.specs.File.{refusal, count, size}
+use Rattle.files.specs.File.{refusal, count, size}
 use Rattle.replay.specs.Replay.{replayRefusal, passing-file}
 use Rattle.report.specs.Lines.{refusalLine}
 use Rattle.transcript.specs.Transcript.{registerLength, registerIn, fileIn, inputRefusal, transcript}

@@ -4,7 +4,7 @@ use mathlib.Core.Path.{_≡_}
 use mathlib.Core.List.{List}
 use lib.ListN.{length, take, drop}
 use Rattle.events.specs.declared.Event.{Event}
-use Rattle.events.specs.File.{eventsOf}
+use Rattle.files.specs.File.{eventsOf}
 use Rattle.machine.specs.declared.Core.{Core}
 use Rattle.calls.specs.declared.Opened.{Opened}
 use Rattle.calls.specs.Opening.{OpenedOn}

@@ -6,7 +6,7 @@ use Rattle.laws.specs.Limits.{PLACES}
 use Rattle.laws.specs.Refusals.{accepted}
 use Rattle.laws.specs.Words.{word16At}
 use Rattle.events.specs.declared.Event.{Event}
-use Rattle.events.specs.File.{eventsOf}
+use Rattle.files.specs.File.{eventsOf}
 use Rattle.plain.specs.Book.{Book, openingRead, new}
 use Rattle.plain.specs.Calls.{call}
 use Rattle.plain.specs.Refusals.{refusal}

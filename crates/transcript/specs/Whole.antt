@@ -7,7 +7,7 @@ use lib.ListN.{length, take, drop, length-drop, drop-of-length-le}
 use lib.Seq.{length-take-le}
 use Rattle.laws.specs.Refusals.{accepted-zero, accepted-not}
 use Rattle.events.specs.declared.Event.{Event}
-use Rattle.events.specs.File.{eventsOf}
+use Rattle.files.specs.File.{eventsOf}
 use Rattle.plain.specs.Book as plain
 use Rattle.plain.specs.Histories.{run, callsOf}
 use Rattle.machine.specs.declared.Core.{Core}

@@ -137,13 +137,13 @@ pub fn play_events(
     requires { ⌜ (Held core (numbers (now rows) (now trades) (now awards) (now counts) (now starts) (now words) (ledgerOf (now credits) (now debits)))) × (length (now sheet) ≡ SHEET-CELLS) ⌝ }
     ensures { λ r. ⌜ (PlayedOn (now (file .entry)) core (numbers (now (rows .entry)) (now (trades .entry)) (now (awards .entry)) (now (counts .entry)) (now (starts .entry)) (now (words .entry)) (ledgerOf (now (credits .entry)) (now (debits .entry)))) from (now (page .entry)) (now (page .exit)) (numbers (now (rows .exit)) (now (trades .exit)) (now (awards .exit)) (now (counts .exit)) (now (starts .exit)) (now (words .exit)) (ledgerOf (now (credits .exit)) (now (debits .exit)))) r) × (length (now (sheet .exit)) ≡ SHEET-CELLS) ⌝ }
 {
-    let count = events::events_in(file) as usize;
+    let count = files::events_in(file) as usize;
     let room = page.len();
     let mut last = unplayed(core);
     let mut next = from;
     let mut used: usize = 0;
     while next < count && used + BLOCK <= room {
-        let event = events::event_at(file, next);
+        let event = files::event_at(file, next);
         match event {
             Event::Trade(t) => last = calls::trade(last.core, trades, t),
             Event::Price(p) => last = calls::price(last.core, p),

@@ -5,7 +5,7 @@ use mathlib.Core.List.{List}
 use lib.Seq.{take-all}
 use denote.Ref.{now}
 use Rattle.events.specs.declared.Event.{Event}
-use Rattle.events.specs.File.{eventsOf}
+use Rattle.files.specs.File.{eventsOf}
 use Rattle.plain.specs.Book as plain
 use Rattle.plain.specs.Histories.{run, callsOf}
 use Rattle.ledger.specs.Posts.{ledgerOf}

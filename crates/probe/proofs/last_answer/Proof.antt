@@ -4,7 +4,7 @@ use native.Mathlib.Omega.{arith}
 use lib.ListN.{length}
 use denote.Ref.{now}
 use borrow.Author.Needs.{needs}
-use Rattle.events.specs.File.{eventsOf}
+use Rattle.files.specs.File.{eventsOf}
 use Rattle.book.specs.View.{view}
 use Rattle.probe.proofs.Outcomes.{last-none, last-some}
 use Rattle.probe.proofs.last_answer.Statement.{statement}

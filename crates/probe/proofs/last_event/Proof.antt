@@ -5,7 +5,7 @@ use lib.ListN.{getD}
 use denote.Ref.{now}
 use borrow.Author.Needs.{needs}
 use Rattle.events.specs.declared.Event.the-variants as event
-use Rattle.events.specs.File.{eventsOf}
+use Rattle.files.specs.File.{eventsOf}
 use Rattle.probe.proofs.last_event.Statement.{statement}
 use Rattle.probe.proofs.last_event.Tie as tie
 

@@ -4,7 +4,7 @@ use native.Mathlib.Omega.{arith}
 use lib.ListN.{length}
 use denote.Ref.{now}
 use borrow.Author.Needs.{needs}
-use Rattle.events.specs.File.{eventsOf}
+use Rattle.files.specs.File.{eventsOf}
 use Rattle.plain.specs.Histories.{run}
 use Rattle.report.specs.Pages.{none-wrote}
 use Rattle.probe.specs.Last.{lastText}

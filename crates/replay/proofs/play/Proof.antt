@@ -6,7 +6,7 @@ use lib.ListN.{length, take}
 use borrow.Author.Needs.{needs}
 use Rattle.laws.specs.Limits.{SHEET-CELLS}
 use Rattle.events.specs.declared.Event.the-variants as event
-use Rattle.events.specs.File.{eventsOf}
+use Rattle.files.specs.File.{eventsOf}
 use Rattle.ledger.specs.Posts.{ledgerOf}
 use Rattle.machine.specs.View.{numbers}
 use Rattle.replay.specs.Replay.{PlayedUpTo}

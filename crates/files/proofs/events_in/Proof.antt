@@ -1,10 +1,10 @@
--- `events::events_in` meets its contract. The number of events is the count, and no more than the bytes after the first four.
+-- `files::events_in` meets its contract. The number of events is the count, and no more than the bytes after the first four.
 use native.Mathlib.Omega.{arith}
 use denote.Ref.{now}
-use Rattle.events.specs.Passing.{length-events}
+use Rattle.files.specs.Passing.{length-events}
 use borrow.Author.Needs.{needs}
-use Rattle.events.proofs.events_in.Statement.{statement}
-use Rattle.events.proofs.events_in.Tie as tie
+use Rattle.files.proofs.events_in.Statement.{statement}
+use Rattle.files.proofs.events_in.Tie as tie
 
 event-count-requires : tie.Need-event-count-requires
 event-count-requires c κs = tt

@@ -2,10 +2,10 @@
 use Prim.Native.Nat.{ℕ}
 use mathlib.Core.Path.{_≡_, refl}
 use mathlib.Core.List.{List, [], _∷_, _++_}
 use Rattle.events.specs.declared.Event.{Event}
 use Rattle.events.specs.Layout.{marksOf}
 use Rattle.events.specs.Body.{kindOf, fieldsOf, body, fieldsAt, eventFrom, spareIn, masked}
-use Rattle.events.specs.File.{refusal, fileOf, eventsOf}
+use Rattle.files.specs.File.{refusal, fileOf, eventsOf}
 
 -- "member 1 sells to member 2 100 units of security 1 at 1,000; close; close; deliver 100 of position 1"
 events : List Event

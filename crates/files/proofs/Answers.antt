@@ -9,10 +9,10 @@ use Rattle.laws.specs.Limits.{EVENTS}
 use Rattle.laws.specs.Lists.{All}
 use Rattle.laws.specs.Parts.{padded, take-padded}
 use Rattle.laws.specs.Alls.{all-places}
 use Rattle.events.specs.declared.Event.{Event}
-use Rattle.events.specs.declared.Written.{Written}
-use Rattle.events.specs.File.{count, size, eventsOf, fileOf, refusal, writingRefusal, copyingRefusal, answer, pageAfter}
-use Rattle.events.specs.Passing.{Passing, passing, passing-same, events-counted}
+use Rattle.files.specs.declared.Written.{Written}
+use Rattle.files.specs.File.{count, size, eventsOf, fileOf, refusal, writingRefusal, copyingRefusal, answer, pageAfter}
+use Rattle.files.specs.Passing.{Passing, passing, passing-same, events-counted}
 
 -- ---- the refusal of writing
 

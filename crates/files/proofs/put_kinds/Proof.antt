@@ -1,4 +1,4 @@
--- `events::put_kinds` meets its contract. The loop's invariant: the kind bytes of the first i events are written.
+-- `files::put_kinds` meets its contract. The loop's invariant: the kind bytes of the first i events are written.
 use Prim.Native.Nat.{ℕ, _≤_, _-_, _+_}
 use lib.ListN.{set, length, take}
 use mathlib.Core.Path.{ap, _≡_, refl, _∙_}
@@ -7,10 +7,10 @@ use lib.Seq.{sets}
 use borrow.Author.Needs.{needs}
 use Rattle.laws.specs.Limits.{EVENTS}
 use Rattle.laws.specs.Lists.{each}
-use Rattle.events.specs.Layout.{HEADER}
-use Rattle.events.proofs.Writing.{kindByte, kind-bytes, part-written, parts-written, same-long}
-use Rattle.events.proofs.put_kinds.Statement.{statement}
-use Rattle.events.proofs.put_kinds.Tie as tie
+use Rattle.files.specs.Layout.{HEADER}
+use Rattle.files.proofs.Writing.{kindByte, kind-bytes, part-written, parts-written, same-long}
+use Rattle.files.proofs.put_kinds.Statement.{statement}
+use Rattle.files.proofs.put_kinds.Tie as tie
 
 abbrev Inv-loop : tie.InvT-loop
 Inv-loop page₀ count events i₀ page i =

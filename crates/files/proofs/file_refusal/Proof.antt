@@ -1,10 +1,10 @@
--- `events::file_refusal` meets its contract. Count, width and length are tested in turn, then the events.
+-- `files::file_refusal` meets its contract. Count, width and length are tested in turn, then the events.
 use mathlib.Core.Path.{sym, _∙_}
 use denote.Ref.{now}
-use Rattle.events.proofs.Checking.{too-many, other-width, other-length, right-header}
+use Rattle.files.proofs.Checking.{too-many, other-width, other-length, right-header}
 use borrow.Author.Needs.{needs}
-use Rattle.events.proofs.file_refusal.Statement.{statement}
-use Rattle.events.proofs.file_refusal.Tie as tie
+use Rattle.files.proofs.file_refusal.Statement.{statement}
+use Rattle.files.proofs.file_refusal.Tie as tie
 
 event-count-requires : tie.Need-event-count-requires
 event-count-requires c κs = tt

@@ -1,4 +1,4 @@
--- What stands at a place of a file: the fields, the kind and the body of an event.
+-- What stands at a place of a file: the kind and the body of an event.
 use Prim.Native.Nat.{ℕ, zero, suc, _+_, _*_, _≤_, _<_, min}
 use native.Mathlib.Numerals.{add-one}
 use native.Mathlib.Omega.{arith}
@@ -10,26 +10,14 @@ use lib.Dec.{leb}
 use borrow.Author.Tests.{leb-true, leb-false}
 use Rattle.laws.specs.Limits.{EVENTS}
 use Rattle.laws.specs.Asked.{Said, passed, failed, ask}
-use Rattle.laws.specs.WordLaws.{word16-part, word32-part}
 use Rattle.laws.specs.Parts.{getD-part, padded, padded-more, padded-take}
 use Rattle.events.specs.declared.Event.{Event}
-use Rattle.events.specs.Layout.{HEADER, BODY, SUBJECT-AT, FIRST-AT, SECOND-AT, QUANTITY-AT, PRICE-AT, FIRST-KIND-AT, SECOND-KIND-AT}
+use Rattle.events.specs.Layout.{BODY}
 use Rattle.events.specs.Body.{fieldsAt, eventFrom, eventRead}
-use Rattle.events.specs.Passing.{length-events}
-use Rattle.events.specs.File.{count, kindsIn, bodiesIn, paired, eventsOf}
-
--- the fields of a body, read where it stands
-pub fields-part : (file : List ℕ) (at : ℕ) → fieldsAt (take BODY (drop at file)) 0 ≡ fieldsAt file at
-unfolding fieldsAt
-fields-part file at =
-    let subject = word16-part file at BODY SUBJECT-AT (omega arith) in
-    let one = getD-part file at BODY FIRST-AT 0 (omega arith) in
-    let two = getD-part file at BODY SECOND-AT 0 (omega arith) in
-    let quantity = word32-part file at BODY QUANTITY-AT (omega arith) in
-    let price = word32-part file at BODY PRICE-AT (omega arith) in
-    let kind-one = getD-part file at BODY FIRST-KIND-AT 0 (omega arith) in
-    let kind-two = getD-part file at BODY SECOND-KIND-AT 0 (omega arith) in
-    λ i. record { subject = subject i; first = one i; second = two i; quantity = quantity i; price = price i; firstkind = kind-one i; secondkind = kind-two i }
+use Rattle.events.specs.Passing.{fields-part}
+use Rattle.files.specs.Layout.{HEADER}
+use Rattle.files.specs.Passing.{length-events}
+use Rattle.files.specs.File.{count, kindsIn, bodiesIn, paired, eventsOf}
 
 -- body i of those that stand one after the other from a place on
 pub body-place : (file : List ℕ) (at i : ℕ) → take BODY (drop (BODY * i) (drop at file)) ≡ take BODY (drop (at + BODY * i) file)

@@ -5,9 +5,9 @@ use mathlib.Core.List.{List}
 use mathlib.Core.Bool.{Bool}
 use borrow.Author.Tests.{le-leb, lt-leb}
 use Rattle.laws.specs.Refusals.{first, choose}
 use Rattle.events.specs.Layout.{KINDS}
 use Rattle.events.specs.Body.{spareSet}
-use Rattle.events.specs.File.{reasons}
+use Rattle.files.specs.File.{reasons}
 
 pub below-kinds : (kind : ℕ) (b : List ℕ) → kind < 1 → 6 ≡ first (reasons kind b)
 below-kinds kind b h = rw (lt-leb 1 kind h)

@@ -10,9 +10,10 @@ use Rattle.laws.specs.Limits.{EVENTS}
 use Rattle.laws.specs.Refusals.{Reason, first, first-past, first-there}
 use Rattle.laws.specs.Parts.{getD-part}
 use Rattle.laws.specs.Words.{word16At}
-use Rattle.events.specs.Layout.{WIDTH-AT, HEADER, BODY}
-use Rattle.events.specs.File.{refusal, count, size, kindsIn, bodiesIn, reasons, checks}
-use Rattle.events.proofs.Places.{body-place}
+use Rattle.events.specs.Layout.{BODY}
+use Rattle.files.specs.Layout.{WIDTH-AT, HEADER}
+use Rattle.files.specs.File.{refusal, count, size, kindsIn, bodiesIn, reasons, checks}
+use Rattle.files.proofs.Places.{body-place}
 
 abbrev pub left : List ℕ → ℕ → ℕ → List Reason
 left file n i = checks (drop i (kindsIn file n)) (drop (BODY * i) (bodiesIn file n))

@@ -1,14 +1,14 @@
--- `events::events_refusal` meets its contract. The loop's invariant: the events passed have no reason to refuse, so those that are left decide.
+-- `files::events_refusal` meets its contract. The loop's invariant: the events passed have no reason to refuse, so those that are left decide.
 use Prim.Native.Nat.{_≤_, _-_}
 use native.Mathlib.Numerals.{add-one}
 use native.Mathlib.Omega.{arith}
 use mathlib.Core.Path.{_≡_, refl, sym, _∙_}
 use denote.Ref.{now}
 use Rattle.laws.specs.Refusals.{first}
-use Rattle.events.specs.File.{kindsIn, bodiesIn, checks}
-use Rattle.events.proofs.Checking.{left, left-here, left-next, left-none}
-use Rattle.events.proofs.events_refusal.Statement.{statement}
-use Rattle.events.proofs.events_refusal.Tie as tie
+use Rattle.files.specs.File.{kindsIn, bodiesIn, checks}
+use Rattle.files.proofs.Checking.{left, left-here, left-next, left-none}
+use Rattle.files.proofs.events_refusal.Statement.{statement}
+use Rattle.files.proofs.events_refusal.Tie as tie
 
 abbrev Inv-loop : tie.InvT-loop
 Inv-loop file count i₀ i =

@@ -1,4 +1,4 @@
--- `events::put_bodies` meets its contract. The loop's invariant: the bodies of the first i events are written, and these events fit
+-- `files::put_bodies` meets its contract. The loop's invariant: the bodies of the first i events are written, and these events fit
 -- their fields, as the numbers that a machine holds do.
 use Prim.Native.Nat.{_*_, _≤_, _-_, _+_}
 use native.Mathlib.Omega.{arith}
@@ -8,12 +8,13 @@ use lib.Seq.{sets}
 use borrow.Author.Needs.{needs}
 use Rattle.laws.specs.Limits.{EVENTS}
 use Rattle.laws.specs.Lists.{All, each}
-use Rattle.events.specs.Layout.{HEADER, BODY}
+use Rattle.events.specs.Layout.{BODY}
 use Rattle.events.specs.Body.{bodyOf, Fits}
 use Rattle.events.specs.Inverse.{length-body}
-use Rattle.events.proofs.Writing.{event-written, part-written, parts-written, all-more, all-of-them, same-long}
-use Rattle.events.proofs.put_bodies.Statement.{statement}
-use Rattle.events.proofs.put_bodies.Tie as tie
+use Rattle.files.specs.Layout.{HEADER}
+use Rattle.files.proofs.Writing.{event-written, part-written, parts-written, all-more, all-of-them, same-long}
+use Rattle.files.proofs.put_bodies.Statement.{statement}
+use Rattle.files.proofs.put_bodies.Tie as tie
 
 abbrev Inv-loop : tie.InvT-loop
 Inv-loop page₀ count events i₀ page i =

@@ -10,10 +10,11 @@ use Rattle.laws.specs.Lists.{each}
 use Rattle.laws.specs.Refusals.{Reason, _⇒_, first}
 use Rattle.laws.specs.Words.{word16At, bytes16}
 use Rattle.laws.specs.WordLaws.{nonzero}
 use Rattle.events.specs.declared.Event.{Event}
-use Rattle.events.specs.declared.Written.{Written}
-use Rattle.events.specs.Layout.{COUNT-AT, WIDTH-AT, HEADER, BODY, EVENT-BYTES}
+use Rattle.events.specs.Layout.{BODY}
 use Rattle.events.specs.Body.{kindOf, bodyOf, eventRead, isKind, spareSet}
+use Rattle.files.specs.declared.Written.{Written}
+use Rattle.files.specs.Layout.{COUNT-AT, WIDTH-AT, HEADER, EVENT-BYTES}
 
 -- "A file is a count (u16, at most 2,048), body width (u16, 16), an array of kind bytes, then an array of bodies."
 abbrev pub count : List ℕ → ℕ

@@ -1,16 +1,16 @@
--- `events::event_refusal` meets its contract. The kind is tested first, then the spare bytes of the body.
+-- `files::event_refusal` meets its contract. The kind is tested first, then the spare bytes of the body.
 use Prim.Native.Nat.{ℕ}
 use mathlib.Core.Path.{_≡_, sym, subst, _∙_}
 use mathlib.Core.Bool.{Bool, true, false}
 use lib.ListN.{getD, take, drop}
 use denote.Ref.{now}
 use Rattle.laws.specs.Refusals.{first, choose}
 use Rattle.events.specs.Layout.{BODY}
-use Rattle.events.specs.File.{reasons}
-use Rattle.events.proofs.Spare.{below-kinds, above-kinds, of-kinds}
+use Rattle.files.specs.File.{reasons}
+use Rattle.files.proofs.Spare.{below-kinds, above-kinds, of-kinds}
 use borrow.Author.Needs.{needs}
-use Rattle.events.proofs.event_refusal.Statement.{statement}
-use Rattle.events.proofs.event_refusal.Tie as tie
+use Rattle.files.proofs.event_refusal.Statement.{statement}
+use Rattle.files.proofs.event_refusal.Tie as tie
 
 byte-at-requires : tie.Need-byte-at-requires
 byte-at-requires c κs = tt

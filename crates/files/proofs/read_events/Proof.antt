@@ -1,4 +1,4 @@
--- `events::read_events` meets its contract. The loop's invariant: the array holds the first i events, and closes after them.
+-- `files::read_events` meets its contract. The loop's invariant: the array holds the first i events, and closes after them.
 use Prim.Native.Nat.{_≤_, _-_}
 use native.Mathlib.Omega.{arith}
 use mathlib.Core.Path.{_≡_, sym, _∙_}
@@ -6,11 +6,11 @@ use lib.ListN.{take}
 use denote.Ref.{now}
 use Rattle.laws.specs.Limits.{EVENTS}
 use Rattle.laws.specs.Parts.{padded, padded-none}
 use Rattle.events.specs.declared.Event.{Event}
-use Rattle.events.specs.File.{eventsOf}
-use Rattle.events.proofs.Places.{stored-event, all-events}
-use Rattle.events.proofs.read_events.Statement.{statement}
-use Rattle.events.proofs.read_events.Tie as tie
+use Rattle.files.specs.File.{eventsOf}
+use Rattle.files.proofs.Places.{stored-event, all-events}
+use Rattle.files.proofs.read_events.Statement.{statement}
+use Rattle.files.proofs.read_events.Tie as tie
 
 abbrev Inv-loop : tie.InvT-loop
 Inv-loop file events₀ stop i₀ events i =

@@ -1,13 +1,13 @@
--- `events::copy_file` meets its contract. What is written is the file of the events that were read, which is the file itself.
+-- `files::copy_file` meets its contract. What is written is the file of the events that were read, which is the file itself.
 use Prim.Native.Nat.{ℕ, _<_}
 use mathlib.Core.Path.{_≡_, sym, _∙_}
 use lib.ListN.{length, getD}
 use denote.Ref.{now}
-use Rattle.events.specs.File.{refusal}
-use Rattle.events.proofs.Answers.{refused, kept-page, refused-file, copy-answer, copy-page}
+use Rattle.files.specs.File.{refusal}
+use Rattle.files.proofs.Answers.{refused, kept-page, refused-file, copy-answer, copy-page}
 use borrow.Author.Needs.{needs}
-use Rattle.events.proofs.copy_file.Statement.{statement}
-use Rattle.events.proofs.copy_file.Tie as tie
+use Rattle.files.proofs.copy_file.Statement.{statement}
+use Rattle.files.proofs.copy_file.Tie as tie
 
 file-refusal-requires : tie.Need-file-refusal-requires
 file-refusal-requires c κs = tt

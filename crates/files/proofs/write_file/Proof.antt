@@ -1,16 +1,16 @@
--- `events::write_file` meets its contract. Refused, the page is untouched; else its parts are written one after the other.
+-- `files::write_file` meets its contract. Refused, the page is untouched; else its parts are written one after the other.
 use native.Mathlib.Omega.{arith}
 use mathlib.Core.Path.{_≡_}
 use lib.ListN.{length, take}
 use lib.Seq.{length-take-le}
 use denote.Ref.{now}
 use Rattle.laws.specs.Limits.{EVENTS}
-use Rattle.events.specs.File.{writingRefusal}
-use Rattle.events.proofs.Answers.{many, short, enough}
-use Rattle.events.proofs.Writing.{file-written, read-back}
+use Rattle.files.specs.File.{writingRefusal}
+use Rattle.files.proofs.Answers.{many, short, enough}
+use Rattle.files.proofs.Writing.{file-written, read-back}
 use borrow.Author.Needs.{needs}
-use Rattle.events.proofs.write_file.Statement.{statement}
-use Rattle.events.proofs.write_file.Tie as tie
+use Rattle.files.proofs.write_file.Statement.{statement}
+use Rattle.files.proofs.write_file.Tie as tie
 
 returns : tie.Need-returns
 returns c =

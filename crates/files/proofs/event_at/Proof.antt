@@ -1,11 +1,11 @@
--- `events::event_at` meets its contract. The event by the places of its kind byte and its body; past the last event there is none.
+-- `files::event_at` meets its contract. The event by the places of its kind byte and its body; past the last event there is none.
 use mathlib.Core.Path.{ap₂, _∙_}
 use denote.Ref.{now}
 use Rattle.events.specs.Body.{eventFrom}
-use Rattle.events.proofs.Places.{event-past, event-place}
+use Rattle.files.proofs.Places.{event-past, event-place}
 use borrow.Author.Needs.{needs}
-use Rattle.events.proofs.event_at.Statement.{statement}
-use Rattle.events.proofs.event_at.Tie as tie
+use Rattle.files.proofs.event_at.Statement.{statement}
+use Rattle.files.proofs.event_at.Tie as tie
 
 event-count-requires : tie.Need-event-count-requires
 event-count-requires c κs = tt

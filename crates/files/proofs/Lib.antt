@@ -1,0 +1,5 @@
+pub mod Places
+pub mod Spare
+pub mod Checking
+pub mod Writing
+pub mod Answers

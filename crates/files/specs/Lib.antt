@@ -1,0 +1,5 @@
+pub mod Layout
+pub mod File
+pub mod Examples
+pub mod Inverse
+pub mod Passing
