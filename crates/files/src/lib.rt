@@ -70,7 +70,7 @@ pub fn events_in(file: &[u8]) -> u16
 }
 
 // The event at an index, counted from 0; past the last event, a close. Of a file that is refused it reads what is
-// there, a missing byte as 0.
+// there, a missing byte as 0. A body that is there is lent as a part of sixteen bytes, so that the compiler sees that none is missing.
 pub fn event_at(file: &[u8], i: usize) -> Event
     ensures { λ r. ⌜ r ≡ getD (eventsOf (now (file .entry))) i event.Close ⌝ }
 {
@@ -79,8 +79,12 @@ pub fn event_at(file: &[u8], i: usize) -> Event
         return Event::Close;
     }
     let kind = events::byte_at(file, HEADER + i);
-    let fields = events::fields_at(file, HEADER + count + BODY * i);
-    events::event_from(kind, fields)
+    let at = HEADER + count + BODY * i;
+    if file.len() < at + BODY {
+        return events::event_from(kind, events::fields_at(file, at));
+    }
+    let body = &file[at..at + BODY];
+    events::event_from(kind, events::fields_at(body, 0))
 }
 
 // Refusal 6 or 7 of the event whose kind byte and body stand at two places, or 0.
