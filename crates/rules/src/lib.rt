@@ -110,7 +110,8 @@ pub fn cash_price(class: u8, short: u32, long: u32, latest: u32) -> u64
     greater(references, raised_price(class, latest))
 }
 
-// A divisor of 0 gives 0, as the definition's quotient does.
+// Half up: nothing under half of the divisor, and from there on one more than the whole divisors that follow. So no sum overflows,
+// whatever the value, and a constant divisor leaves a multiplication and no rest. A divisor of 0 gives 0, as the definition's quotient does.
 pub fn rounded(value: u64, divisor: u32) -> u64
     ensures { λ r. ⌜ r ≡ roundedHalfUp value divisor ⌝ }
 {
@@ -118,9 +119,11 @@ pub fn rounded(value: u64, divisor: u32) -> u64
         return 0;
     }
     let by = divisor as u64;
-    let whole = value / by;
-    let rest = value % by;
-    if 2 * rest < by { whole } else { whole + 1 }
+    let half = by - by / 2;
+    if value < half {
+        return 0;
+    }
+    (value - half) / by + 1
 }
 
 pub fn fee_within(divisor: u32, least: u64, most: u64, value: u64) -> u64
