@@ -1,13 +1,25 @@
 -- Digits stored from the last to the first.
-use Prim.Native.Nat.{ℕ, zero, suc, _+_, _-_, _/_, _%_, _≤_, _<_}
+use Prim.Native.Nat.{ℕ, zero, suc, _+_, _-_, _/_, _%_, _^_, _≤_, _<_}
+use native.Mathlib.Numerals.{add-one}
 use native.Mathlib.Omega.{arith}
-use mathlib.Core.Path.{_≡_, ap, ap₂, sym, _∙_}
+use mathlib.Core.Path.{_≡_, refl, ap, ap₂, sym, subst, _∙_}
 use mathlib.Core.List.{List, [], _∷_, _++_, append-assoc}
 use lib.ListN.{length, drop, set, length-set}
 use lib.Seq.{drop-cons, drop-set-lt, getD-set-same}
-use Rattle.report.specs.Digits.{places}
+use Rattle.report.specs.Digits.{digits, digits-below, places, places-digits, tenth-below}
 
--- the digits that are still to come, with the page from where they end, stay the same where the last of them is stored
+-- What is still to be stored before a place: the digits of `left`, which has no more than fit there. With the page from that place on they are
+-- the whole page to be.
+pub record Unstored (whole page : List ℕ) (at left : ℕ) : Type 0 where
+  pub below : left < 10 ^ at
+  pub same : places at left ++ drop at page ≡ whole
+
+-- at first all digits of a number are
+pub all-unstored : (page : List ℕ) (n : ℕ) → Unstored (digits n ++ drop (length (digits n)) page) page (length (digits n)) n
+all-unstored page n =
+    record { below = digits-below n; same = ap (λ (l : List ℕ). l ++ drop (length (digits n)) page) (places-digits n) }
+
+-- the last digit is stored, and the tenth is left
 stored : (page : List ℕ) (k left : ℕ) → k < length page → places k (left / 10) ++ drop k (set page k (48 + left % 10)) ≡ places (suc k) left ++ drop (suc k) page
 unfolding places
 stored page k left h =
@@ -16,13 +28,35 @@ stored page k left h =
     ∙ ap₂ (λ (x : ℕ) (l : List ℕ). x ∷ l) (getD-set-same page k (48 + left % 10) 0 h) (drop-set-lt (suc k) page k (48 + left % 10) (omega arith)) in
     ap (λ (l : List ℕ). places k (left / 10) ++ l) cut ∙ sym (append-assoc (places k (left / 10)) ((48 + left % 10) ∷ []) (drop (suc k) page))
 
-pub digit-stored : (page whole : List ℕ) (at left : ℕ) → 0 < at → at ≤ length page → places at left ++ drop at page ≡ whole → places (at - 1) (left / 10) ++ drop (at - 1) (set page (at - 1) (48 + left % 10)) ≡ whole
-digit-stored page whole at left h l e =
-    let p : suc (at - 1) ≡ at = omega arith in
-    stored page (at - 1) left (omega arith) ∙ ap (λ (k : ℕ). places k left ++ drop k page) p ∙ e
+digit-stored : (whole page : List ℕ) (k left : ℕ) → k < length page → Unstored whole page (suc k) left → Unstored whole (set page k (48 + left % 10)) k (left / 10)
+digit-stored whole page k left h u =
+    record { below = tenth-below k left (u .below); same = stored page k left h ∙ u .same }
 
--- none is left to come
-pub all-stored : (page whole : List ℕ) (at left : ℕ) → at ≤ 0 → places at left ++ drop at page ≡ whole → page ≡ whole
+-- two digits are stored at once
+pub two-stored : (whole page : List ℕ) (at left : ℕ) → 1 < at → at ≤ length page → Unstored whole page at left
+    → Unstored whole (set (set page (at - 2 + 1) (48 + left % 100 % 10)) (at - 2) (48 + left % 100 / 10)) (at - 2) (left / 100)
+two-stored whole page at left h l u =
+    let k : ℕ = at - 2 in
+    let p : at ≡ suc (suc k) = omega arith in
+    let ones : left % 100 % 10 ≡ left % 10 = omega arith in
+    let tens : left % 100 / 10 ≡ left / 10 % 10 = omega arith in
+    let rest : left / 100 ≡ left / 10 / 10 = omega arith in
+    rw (ones, tens, rest, add-one (at - 2))
+    (digit-stored whole (set page (suc k) (48 + left % 10)) k (left / 10) (omega (arith, length-set page (suc k) (48 + left % 10)))
+    (digit-stored whole page (suc k) left (omega arith) (subst (λ (n : ℕ). Unstored whole page n left) p u)))
+
+-- none is left
+pub all-stored : (whole page : List ℕ) (at left : ℕ) → at ≡ 0 → Unstored whole page at left → page ≡ whole
 unfolding places
-all-stored page whole zero left h e = e
-all-stored page whole (suc at) left h e = absurd (omega arith)
+all-stored whole page zero left h u = u .same
+all-stored whole page (suc at) left h u = absurd (omega arith)
+
+-- the one that is left is what is left of the number, and is stored
+pub last-digit : (whole page : List ℕ) (at left : ℕ) → at ≡ 1 → Unstored whole page at left → left < 10
+last-digit whole page at left e u = subst (λ (n : ℕ). left < 10 ^ n) e (u .below)
+
+pub last-stored : (whole page : List ℕ) (at left : ℕ) → at ≡ 1 → 0 < length page → Unstored whole page at left → set page 0 (48 + left) ≡ whole
+last-stored whole page at left e h u =
+    let digit : left ≡ left % 10 = omega (arith, last-digit whole page at left e u) in
+    ap (λ (d : ℕ). set page 0 (48 + d)) digit
+    ∙ all-stored whole (set page 0 (48 + left % 10)) 0 (left / 10) refl (digit-stored whole page 0 left h (subst (λ (n : ℕ). Unstored whole page n left) e u))

@@ -1,7 +1,7 @@
 -- The decimal digits of a number, as ASCII bytes, most significant first, and that they are right: read back they give the number, and
 -- none stands in front of them that could be left out.
 use Prim.Native.Nat.{ℕ, zero, suc, _+_, _-_, _*_, _/_, _%_, _^_, _≤_, _<_}
-use native.Mathlib.Nat.{pow-suc, div-lt-iff-lt-mul}
+use native.Mathlib.Nat.{pow-suc, pow-succ', div-lt-iff-lt-mul, le-div-iff-mul-le, div-div-eq-div-mul}
 use native.Mathlib.Numerals.{add-one}
 use native.Mathlib.Omega.{arith}
 use mathlib.Core.Path.{_≡_, refl, ap, sym, _∙_}
@@ -136,6 +136,10 @@ length-more n h = ap length (digits-more n h) ∙ length-append (digits (n / 10)
 pub length-one : (n : ℕ) → n < 10 → length (digits n) ≡ 1
 length-one n h = ap length (digits-one n h)
 
+-- the tenth of a number below a power of ten is below the power before
+pub tenth-below : (k n : ℕ) → n < 10 ^ suc k → n / 10 < 10 ^ k
+tenth-below k n h = div-lt-iff-lt-mul {k = 10} (omega arith) .1 (rw (pow-suc 10 k) at h)
+
 -- a number below a power of ten has at most as many digits as the power says
 pub digits-most : (k n : ℕ) → n < 10 ^ suc k → length (digits n) ≤ suc k
 digits-most zero n h = omega (arith, length-one n h)
@@ -145,7 +149,34 @@ digits-most (suc k) n h = go (ask (ltb n 10)) (digits-most k (n / 10))
     go (passed e) ih = omega (arith, length-one n (ltb-true n 10 e))
     go (failed e) ih =
         let l : 10 ≤ n = ltb-false n 10 e in
-        omega (arith, length-more n l, ih (div-lt-iff-lt-mul {k = 10} (omega arith) .1 (rw (pow-suc 10 (suc k)) at h)))
+        omega (arith, length-more n l, ih (tenth-below (suc k) n h))
+
+-- every power of ten is at least 1
+some : (k : ℕ) → 1 ≤ 10 ^ k
+some zero = omega arith
+some (suc k) = omega (arith, pow-suc 10 k, some k)
+
+-- a number from a power of ten on has that many digits more than its quotient by the power
+pub length-steps : (k n : ℕ) → 10 ^ k ≤ n → length (digits n) ≡ length (digits (n / 10 ^ k)) + k
+length-steps zero n h =
+    let e : n / 10 ^ 0 ≡ n = omega arith in
+    omega (arith, ap (λ (m : ℕ). length (digits m)) e)
+length-steps (suc k) n h =
+    let tenth : 10 ^ k ≤ n / 10 = le-div-iff-mul-le {k = 10} (omega arith) .1 (rw (pow-suc 10 k) at h) in
+    let e : n / 10 / 10 ^ k ≡ n / 10 ^ suc k = div-div-eq-div-mul n 10 (10 ^ k) ∙ ap (λ (m : ℕ). n / m) (sym (pow-succ' 10 k)) in
+    omega (arith, length-more n (omega (arith, some k)), length-steps k (n / 10) tenth, ap (λ (m : ℕ). length (digits m)) e)
+
+-- a number from one power of ten on and below the next has as many digits as the next one says
+pub length-between : (k n : ℕ) → 10 ^ k ≤ n → n < 10 ^ suc k → length (digits n) ≡ suc k
+length-between k n h l =
+    omega (arith, length-steps k n h, length-one (n / 10 ^ k) (div-lt-iff-lt-mul {k = 10 ^ k} (omega (arith, some k)) .1 (rw (pow-succ' 10 k) at l)))
+
+-- a number is below the power of ten that has as many noughts as it has digits
+pub digits-below : (n : ℕ) → n < 10 ^ length (digits n)
+digits-below =
+    by-tenths (λ n. n < 10 ^ length (digits n))
+    (λ n h. rw (length-one n h) (omega arith))
+    (λ n h ih. rw (length-more n h, add-one, pow-suc 10 (length (digits (n / 10)))) (div-lt-iff-lt-mul {k = 10} (omega arith) .0 ih))
 
 -- ---- the same digits from the last to the first: the k last decimal places of a number
 unfoldable pub places : ℕ → ℕ → List ℕ

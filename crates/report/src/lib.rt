@@ -30,31 +30,50 @@ const LINE_FEED: u8 = 10;
 
 const MINUS: u8 = 45;
 
-// How many digits a number has.
+// How many digits a number has, counted by four.
 fn digit_count(n: u64) -> usize
     ensures { λ r. ⌜ r ≡ length (digits n) ⌝ }
 {
     let mut left = n;
     let mut count: usize = 1;
-    while 10 <= left {
-        left = left / 10;
-        count += 1;
+    while 10000 <= left {
+        left = left / 10000;
+        count += 4;
     }
-    count
+    if left < 10 {
+        return count;
+    }
+    if left < 100 {
+        return count + 1;
+    }
+    if left < 1000 {
+        return count + 2;
+    }
+    count + 3
 }
 
-// The digits of a number, from the last to the first.
+// The digits of a number, two at a time, from the last to the first.
 fn put_digits(page: &mut [u8], n: u64) -> usize
     requires { ⌜ length (digits n) ≤ length (now page) ⌝ }
     ensures { λ r. ⌜ Put (digits n) (now (page .entry)) (now (page .exit)) r ⌝ }
 {
+    if n < 10 {
+        page[0] = 48 + n as u8;
+        return 1;
+    }
     let count = digit_count(n);
     let mut left = n;
     let mut at = count;
-    while 0 < at {
-        at -= 1;
-        page[at] = 48 + (left % 10) as u8;
-        left = left / 10;
+    while 1 < at {
+        at -= 2;
+        let two = (left % 100) as u8;
+        page[at + 1] = 48 + two % 10;
+        page[at] = 48 + two / 10;
+        left = left / 100;
+    }
+    if at == 1 {
+        page[0] = 48 + left as u8;
+        return count;
     }
     count
 }
