@@ -14,7 +14,7 @@ use Rattle.replay.specs.Replay.{PlayedUpTo}
 use Rattle.replay.proofs.Playing.{then-played}
 use Rattle.report.specs.Pages.{Wrote, wrote-put, put-length}
 use Rattle.transcript.specs.declared.Played.{Played}
-use Rattle.transcript.specs.Playing.{PlayedOn, between}
+use Rattle.transcript.specs.Playing.{END, PlayedOn, between}
 
 -- the bytes that were written are among those of the page
 pub wrote-within : (least : ℕ) (text entry exit : List ℕ) (r : ℕ) → least ≤ length entry → Wrote least text entry exit r → r ≤ length exit
@@ -41,7 +41,7 @@ take-between l from to h =
 
 -- what holds between two pages: the events before a place are played
 pub record Between (file : List ℕ) (b : Core) (a : Numbers) (page : List ℕ) (played : Core) (z : Numbers) (i : ℕ) : Type 0 where
-  pub long : length page ≡ 131072
+  pub long : length page ≡ END
   pub place : i ≤ length (eventsOf file)
   pub played' : PlayedUpTo b a (take i (eventsOf file)) played z
 

@@ -10,6 +10,8 @@ ghost use Rattle.files.specs.File.{eventsOf};
 ghost use Rattle.ledger.specs.Posts.{ledgerOf};
 ghost use Rattle.machine.specs.View.{Numbers, numbers, onRows, onLedger, Held};
 ghost use Rattle.replay.specs.Replay.{PlayedUpTo, NewlyHeld};
+ghost use Rattle.transcript.specs.Cut.{INPUT};
+ghost use Rattle.transcript.specs.Playing.{END};
 use calls::Core;
 use laws::ACCOUNTS;
 use laws::AWARD_CELLS;
@@ -21,12 +23,20 @@ use laws::TRADE_CELLS;
 use libc::STDERR_FILENO;
 use libc::STDIN_FILENO;
 use libc::STDOUT_FILENO;
+use transcript::END;
+use transcript::INPUT;
 
-// Enough for the longest event and for all positions and accounts, so that many events are written at once.
-fn blank_page() -> [u8; 131072]
-    ensures { λ r. ⌜ length r ≡ 131072 ⌝ }
+// A page of the lines of all positions and accounts, which is enough for those of the longest event too.
+fn blank_page() -> [u8; END]
+    ensures { λ r. ⌜ length r ≡ END ⌝ }
 {
-    [0u8; 131072]
+    [0u8; END]
+}
+
+fn blank_input() -> [u8; INPUT]
+    ensures { λ r. ⌜ length r ≡ INPUT ⌝ }
+{
+    [0u8; INPUT]
 }
 
 // The used bytes of a page. A program has no status of its own, so a write that fails is said on standard error.
@@ -59,8 +69,8 @@ fn print_events(
     debits: &mut [u64; ACCOUNTS],
     sheet: &mut [u64; SHEET_CELLS],
 ) -> Core
-    requires { ⌜ (Held core (numbers (now rows) (now trades) (now awards) (now counts) (now starts) (now words) (ledgerOf (now credits) (now debits)))) × (length (now sheet) ≡ SHEET-CELLS) × (length (now page) ≡ 131072) ⌝ }
-    ensures { λ r. ⌜ (PlayedUpTo core (numbers (now (rows .entry)) (now (trades .entry)) (now (awards .entry)) (now (counts .entry)) (now (starts .entry)) (now (words .entry)) (ledgerOf (now (credits .entry)) (now (debits .entry)))) (eventsOf (now (file .entry))) r (numbers (now (rows .exit)) (now (trades .exit)) (now (awards .exit)) (now (counts .exit)) (now (starts .exit)) (now (words .exit)) (ledgerOf (now (credits .exit)) (now (debits .exit))))) × (length (now (page .exit)) ≡ 131072) ⌝ }
+    requires { ⌜ (Held core (numbers (now rows) (now trades) (now awards) (now counts) (now starts) (now words) (ledgerOf (now credits) (now debits)))) × (length (now sheet) ≡ SHEET-CELLS) × (length (now page) ≡ END) ⌝ }
+    ensures { λ r. ⌜ (PlayedUpTo core (numbers (now (rows .entry)) (now (trades .entry)) (now (awards .entry)) (now (counts .entry)) (now (starts .entry)) (now (words .entry)) (ledgerOf (now (credits .entry)) (now (debits .entry)))) (eventsOf (now (file .entry))) r (numbers (now (rows .exit)) (now (trades .exit)) (now (awards .exit)) (now (counts .exit)) (now (starts .exit)) (now (words .exit)) (ledgerOf (now (credits .exit)) (now (debits .exit))))) × (length (now (page .exit)) ≡ END) ⌝ }
 {
     let count = files::events_in(file) as usize;
     let mut played = core;
@@ -96,7 +106,7 @@ fn print_end(
     credits: &[u64; ACCOUNTS],
     debits: &[u64; ACCOUNTS],
 )
-    requires { ⌜ ((others : Numbers) × Held core (onLedger (onRows others (now rows)) (ledgerOf (now credits) (now debits)))) × (length (now page) ≡ 131072) ⌝ }
+    requires { ⌜ ((others : Numbers) × Held core (onLedger (onRows others (now rows)) (ledgerOf (now credits) (now debits)))) × (length (now page) ≡ END) ⌝ }
 {
     let used = transcript::end_lines(page, core, rows, credits, debits);
     print_page(page, used);
@@ -145,9 +155,9 @@ fn print_transcript(input: &[u8]) {
     print_played(&input[file..], core);
 }
 
-// The largest input that is not refused has 35,238 bytes. Of a longer one the first 65,536 print the same (`transcript/specs/Cut.antt`).
+// The largest input that is not refused has 35,238 bytes. Of a longer one the first `INPUT` print the same (`transcript/specs/Cut.antt`).
 fn main() {
-    let mut input = io::large_buffer();
+    let mut input = blank_input();
     let length = io::read_full(STDIN_FILENO, &mut input);
     print_transcript(&input[..length]);
 }

@@ -1,4 +1,4 @@
--- The program reads no more than 65,536 bytes, and prints what the whole input would make it print: the largest register and file have 35,238.
+-- The program reads no more than `INPUT` bytes, and prints what the whole input would make it print: the largest register and file have 35,238.
 use Prim.Native.Nat.{ℕ, _+_, _-_, _*_, _≤_, _<_}
 use native.Mathlib.Omega.{arith}
 use mathlib.Core.Path.{_≡_, ap, ap₂, sym, _∙_}
@@ -90,3 +90,10 @@ module _ (input : List ℕ) (most : ℕ) (room : 35239 ≤ most) where
       go (failed wrong) (passed longer) =
           let e = refused-count input wrong in
           same-refusal cut input (refused-count cut (ap (within 1 32) same-count ∙ wrong) ∙ sym e) (λ z. omega (arith, sym e ∙ z))
+
+-- the bytes that the program's buffer has room for
+abbrev pub INPUT : ℕ
+INPUT = 36864
+
+pub first-bytes : (input : List ℕ) → transcript (take INPUT input) ≡ transcript input
+first-bytes input = cut-prints input INPUT (omega arith)

@@ -44,7 +44,10 @@ pub struct Played {
 pub const BLOCK: usize = 82_000;
 
 // A page with fewer bytes is too short for 1,024 positions and 64 accounts.
-const END: usize = 87_040;
+pub const END: usize = 87_040;
+
+// The bytes of an input that the program reads: of a longer one they print the same (`specs/Cut.antt`, `first-bytes`).
+pub const INPUT: usize = 36_864;
 
 // Where the register ends, by its own count, or the input does.
 fn register_end(input: &[u8]) -> usize
