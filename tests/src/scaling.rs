@@ -10,6 +10,7 @@
 //!
 //! Attempts and cash settlements go by a price of their day, so prices are given on the day of these.
 
+use crate::event_kinds::DISCHARGES;
 use crate::histories::registers::with_classes;
 use crate::random::Random;
 use second::book::{GREATEST_QUANTITY, MOST_ATTEMPTS, MOST_OFFERS, MOST_TRADES};
@@ -339,7 +340,7 @@ impl Input {
                 return Err(format!("{event:?} has refusal {refusal} instead of {meant}"));
             }
         }
-        let is_discharge = |call: &&Call| matches!(call.0.kind(), 3 | 7 | 8 | 10) && call.1 == ACCEPTED;
+        let is_discharge = |call: &&Call| DISCHARGES.contains(&call.0.kind()) && call.1 == ACCEPTED;
         let discharges = self.calls.iter().filter(is_discharge).count();
         let [pieces, positions] = [lines("p").count(), lines("s").count()];
         if (pieces, positions) != (discharges, self.positions) {

@@ -2,15 +2,9 @@
 //! from what the player printed.
 
 use crate::compare::bytes::{parts, price, quantity, word, Parts, WIDTH};
+use fails_book_tests::event_kinds::{ATTEMPT, AWARD, CLOSE, CONFIRM, OFFER, TRADE};
 use std::collections::BTreeMap;
 use tools::output::{lines, Line, Piece};
-
-const TRADE: u8 = 1;
-const ATTEMPT: u8 = 4;
-const OFFER: u8 = 5;
-const AWARD: u8 = 6;
-pub const CONFIRM: u8 = 7;
-const CLOSE: u8 = 9;
 
 pub struct Auction {
     /// The number of the event that ended it, the award.

@@ -1,9 +1,10 @@
 //! The auctions of grown histories: the total of each, and what some of them cost, as far as it can be told in any
 //! book.
 
-use super::auctions::{Auction, Play, CONFIRM};
+use super::auctions::{Auction, Play};
 use super::ways::least_cost;
 use crate::compare::bytes::{parts, Parts, WIDTH};
+use fails_book_tests::event_kinds::CONFIRM;
 use second::events::MOST_EVENTS;
 
 /// A day has no more awards: sixteen attempts of sixteen offers.

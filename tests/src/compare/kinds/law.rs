@@ -9,14 +9,12 @@ use crate::compare::player::{output, shown};
 use crate::compare::prices::input_of;
 use crate::compare::same;
 use fails_book_tests::desk;
+use fails_book_tests::event_kinds::{CLOSE, TRADE};
 use second::book::Side;
 use second::page;
 use second::transcript::transcript;
 use std::collections::BTreeMap;
 use tools::output::{lines, Line};
-
-const TRADE: u8 = 1;
-const CLOSE: u8 = 9;
 
 /// 80 columns and a line feed.
 const LINE: usize = 81;

@@ -8,19 +8,9 @@ use crate::compare::bytes::{parts, price, quantity, word, Parts, WIDTH};
 use crate::compare::kinds::{made, Made};
 use crate::compare::prices::{input_of, printed};
 use crate::compare::same;
+use fails_book_tests::event_kinds::{ATTEMPT, AWARD, CLOSE, CONFIRM, DISCHARGES, PAIR_OFF};
 use std::collections::BTreeMap;
 use tools::output::{lines, Line, Piece, Position};
-
-const DELIVERY: u8 = 3;
-const ATTEMPT: u8 = 4;
-const AWARD: u8 = 6;
-const CONFIRM: u8 = 7;
-const CASH: u8 = 8;
-const CLOSE: u8 = 9;
-const PAIR_OFF: u8 = 10;
-
-/// The kinds of events that have pieces, in the order of the figures that the player prints.
-const DISCHARGES: [u8; 4] = [DELIVERY, CONFIRM, CASH, PAIR_OFF];
 
 /// A position's days from trade to delivery.
 const DAYS_TO_DELIVERY: u32 = 2;
