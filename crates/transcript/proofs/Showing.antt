@@ -57,6 +57,7 @@ pub record Reached (file : List ℕ) (b : Core) (a : Numbers) (from to : ℕ) (e
   pub high : to ≤ max from (length (eventsOf file))
   pub text : Put (eventsText (bookOf b a) (from + 1) (between file from to)) entry page used
   pub fits : used ≤ length entry
+  pub most : used ≤ BLOCK * (to - from)
   pub played' : PlayedUpTo b a (between file from to) played z
 
 pub none-reached : (file : List ℕ) (b : Core) (a : Numbers) (from : ℕ) (page : List ℕ) → Held b a → Reached file b a from from page page b a 0
@@ -68,6 +69,7 @@ none-reached file b a from page v =
       high = omega arith;
       text = rw none (put-none page);
       fits = omega arith;
+      most = omega arith;
       played' = rw none (none-played b a v);
     }
 
@@ -86,6 +88,7 @@ one-reached file b a from to entry page part played after z y e number used more
           (ap (λ (t : List ℕ). eventsText (bookOf b a) (from + 1) (between file from to) ++ t) same ∙ sym (text-more es from to event.Close e (h .low) inside is (bookOf b a)))
           (put-lent _ entry page used (h .text) _ part more (s .text));
       fits = omega (arith, s .fits);
+      most = omega (arith, h .low, h .most, s .fits);
       played' = rw (one-more es from to event.Close e (h .low) inside is) (then-played b a (between file from to) (e ∷ []) played after z y (h .played') (s .played));
     }
 
@@ -103,7 +106,7 @@ same-length file b a from to entry page played z used h = put-length _ entry pag
 pub played-on : (file : List ℕ) (b : Core) (a : Numbers) (from to : ℕ) (entry page : List ℕ) (played : Core) (z : Numbers) (used : ℕ) → Reached file b a from to entry page played z used
     → (from < length (eventsOf file) → BLOCK ≤ length entry → from < to) → PlayedOn file b a from entry page z (record { core = played; next = to; used = used })
 played-on file b a from to entry page played z used h more =
-    record { reached = h .low; within = h .high; text = h .text; fits = h .fits; played = h .played'; further = more }
+    record { reached = h .low; within = h .high; text = h .text; fits = h .fits; most = h .most; played = h .played'; further = more }
 
 -- a page with room for an event has taken one, where it has no room for another
 pub some-taken : (file : List ℕ) (b : Core) (a : Numbers) (from to : ℕ) (entry page : List ℕ) (played : Core) (z : Numbers) (used : ℕ) → Reached file b a from to entry page played z used

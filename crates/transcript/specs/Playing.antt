@@ -44,5 +44,7 @@ pub record PlayedOn (file : List ℕ) (b : Core) (a : Numbers) (from : ℕ) (ent
   pub within : r .next ≤ max from (length (eventsOf file))
   pub text : Put (eventsText (bookOf b a) (from + 1) (between file from (r .next))) entry exit (r .used)
   pub fits : r .used ≤ length entry
+  -- it follows from the text's length, and spares a caller the proof of that
+  pub most : r .used ≤ BLOCK * (r .next - from)
   pub played : PlayedUpTo b a (between file from (r .next)) (r .core) z
   pub further : from < length (eventsOf file) → BLOCK ≤ length entry → from < r .next

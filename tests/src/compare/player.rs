@@ -4,6 +4,7 @@ use super::{hex, same};
 use crate::check::{Check, Round, Tests};
 use fails_book_tests::desk::Answer;
 use fails_book_tests::histories::{self, survey::Survey};
+use fails_book_tests::timed;
 use second::events::{file_of, Event, Party};
 use second::register::bytes_of;
 use second::transcript;
@@ -180,6 +181,10 @@ fn compare(check: &mut Check, input: &[u8]) {
     let second = transcript::transcript(input);
     count(check, &second);
     same(check, || shown(input), same_lines(&output(input), &second), Ok(()));
+    // The play that is timed in one process.
+    let page = &mut timed::page();
+    let bytes = timed::play(input, page) as usize;
+    same(check, || shown(input), same_lines(&page[..bytes], &second), Ok(()));
 }
 
 /// An output known beforehand, wanted of the player and of the second implementation alike.
