@@ -65,8 +65,8 @@ pub const KINDS: [Kind; 11] = [
     Kind { name: "offer", pair: offers, instead: None },
     Kind { name: "confirm", pair: confirms, instead: None },
     Kind { name: "cash", pair: cash_settlements, instead: Some("delivery") },
-    Kind { name: "close", pair: closes, instead: None },
     Kind { name: "pair-off", pair: pair_offs, instead: None },
+    Kind { name: "close", pair: closes, instead: None },
 ];
 
 /// Trades on a day that is not closed, or prices in their place. A book takes no more than 512 trades, so the fullest
