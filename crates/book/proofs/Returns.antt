@@ -126,14 +126,14 @@ no-pieces b e n bare = rw (none-handed b e bare) (accepted-same (refusal b (call
 
 module _ (b : Book) (e : Event) (n : ℕ) where
   -- an event whose sheet, if it has one, is long enough, by the call in place on one of 1,024 places
-  pub stepped : refusal (view b) (call e 1024) ≡ refusal (view b) (call e n) → (after : Book) (o : Outcome) (m : Manner) (sheet left : List ℕ) (made : ℕ)
-      → CalledOn (b .core) (numbersIn b) (call e 1024) m sheet (after .core) (numbersIn after) left o made
-      → Stepped b e n (record { book = after; outcome = o; pieces = pieceTable m left made })
+  pub stepped : refusal (view b) (call e 1024) ≡ refusal (view b) (call e n) → (after : Book) (o : Outcome) (sheet left : List ℕ) (made : ℕ)
+      → CalledOn (b .core) (numbersIn b) (call e 1024) sheet (after .core) (numbersIn after) left o made
+      → Stepped b e n (record { book = after; outcome = o; pieces = pieceTable left made })
   unfolding pieces
-  stepped same after o m sheet left made d =
+  stepped same after o sheet left made d =
       record {
         returned = other-sheet b after o _ e 1024 n same (returned b after o _ (call e 1024) (d .called));
-        pieces-fit = record { places = length-pieces m left; held = d .few };
+        pieces-fit = record { places = length-pieces left; held = d .few };
       }
 
   -- a discharge on a sheet that is too small

@@ -12,7 +12,6 @@ ghost use Rattle.tables.specs.Lent.{pieceTable};
 ghost use Rattle.ledger.specs.Posts.{ledgerOf};
 ghost use Rattle.machine.specs.View.{numbers, bookOf, Held};
 ghost use Rattle.reading.specs.Reading.{positionAnswer, awardAnswer, priceAnswer, balanceAnswer};
-ghost use Rattle.calls.specs.Stepping.{mannerOf};
 ghost use Rattle.book.specs.View.{withCore, view, Valid, Returned};
 ghost use Rattle.book.specs.Opening.{OpenedOn};
 ghost use Rattle.book.specs.Stepping.{WithoutPieces, Stepped};
@@ -40,7 +39,6 @@ use laws::SECURITIES;
 use laws::SHEET_CELLS;
 use laws::TRADE_CELLS;
 use plain::Ledger;
-use plain::Manner;
 use plain::Outcome;
 use refusals::SMALL_SHEET;
 use tables::Pieces;
@@ -209,24 +207,6 @@ fn is_discharge(e: Event) -> bool
     }
 }
 
-// The manner of an event's pieces. An event that is no discharge has none, so that its manner does not matter.
-fn manner_of(e: Event) -> Manner
-    ensures { λ r. ⌜ r ≡ mannerOf e ⌝ }
-{
-    match e {
-        Event::Trade(_) => Manner::Delivered,
-        Event::Price(_) => Manner::Delivered,
-        Event::Delivery(_) => Manner::Delivered,
-        Event::Attempt(_) => Manner::Delivered,
-        Event::Offer(_) => Manner::Delivered,
-        Event::Award(_) => Manner::Delivered,
-        Event::Confirm(_) => Manner::BoughtIn,
-        Event::Cash(_) => Manner::Cash,
-        Event::Close => Manner::Delivered,
-        Event::PairOff(_) => Manner::Paired,
-    }
-}
-
 // A sheet that is too small turns a discharge down before anything else.
 fn small_sheet(book: Book) -> Discharged
     ensures { λ r. ⌜ WithoutPieces (record { book = book; outcome = outcome.Refused 8 }) r ⌝ }
@@ -242,15 +222,10 @@ fn small_sheet(book: Book) -> Discharged
 }
 
 // A book whose tables were lent gets the core that the call returned, and the first pieces of the sheet are handed out.
-fn handed_out(
-    book: Book,
-    answered: calls::Answered,
-    sheet: &[u64; SHEET_CELLS],
-    manner: Manner,
-) -> Discharged
-    ensures { λ r. ⌜ r ≡ record { book = withCore book (answered .core); outcome = answered .outcome; pieces = pieceTable manner (now (sheet .entry)) (answered .pieces) } ⌝ }
+fn handed_out(book: Book, answered: calls::Answered, sheet: &[u64; SHEET_CELLS]) -> Discharged
+    ensures { λ r. ⌜ r ≡ record { book = withCore book (answered .core); outcome = answered .outcome; pieces = pieceTable (now (sheet .entry)) (answered .pieces) } ⌝ }
 {
-    let items = pieces::pieces_of(sheet, manner);
+    let items = pieces::pieces_of(sheet);
     let count = answered.pieces;
     let pieces = Pieces { items, count };
     let core = answered.core;
@@ -305,8 +280,7 @@ pub fn step(book: Book, sheet: usize, e: Event) -> Discharged
     after.words = words;
     after.credits = credits;
     after.debits = debits;
-    let manner = manner_of(e);
-    handed_out(after, answered, &lent, manner)
+    handed_out(after, answered, &lent)
 }
 
 pub fn delivery(book: Book, sheet: usize, d: Delivery) -> Discharged

@@ -10,15 +10,15 @@ use Rattle.laws.specs.Refusals.{accepted}
 use Rattle.events.specs.declared.Event.{Event}
 use Rattle.events.specs.declared.Event.the-variants as event
 use Rattle.plain.specs.declared.Piece.{Piece}
-use Rattle.plain.specs.declared.Manner.{Manner}
 use Rattle.plain.specs.declared.Outcome.{Outcome}
 use Rattle.plain.specs.Book as plain
 use Rattle.plain.specs.Calls.{call, isDischarge, handsOut, amount, done}
 use Rattle.plain.specs.Refusals.{reasons, refusal}
 use Rattle.plain.specs.Histories.{next, pieces, quantity}
+use Rattle.pieces.specs.Sheet.{sheetWith}
 use Rattle.kept.specs.View.{Kept, view, answer}
 use Rattle.machine.specs.declared.Core.{Core}
-use Rattle.calls.specs.Stepping.{mannerOf, Stepped}
+use Rattle.calls.specs.Stepping.{Stepped}
 use Rattle.machine.specs.View.{Numbers, keptOf, bookOf, Returned, CalledBare, CalledOn}
 
 -- an event that is no discharge is refused alike whatever the sheet's length
@@ -52,21 +52,16 @@ module _ (b : Kept) (e : Event) (m n : ℕ) (same : refusal (view b) (call e m) 
       }
 
 -- an event that is no discharge, whose call has no sheet: a sheet that is lent beside it stays as it is
-pub bare-on : (b : Core) (a : Numbers) (e : Event) (m : Manner) (sheet : List ℕ) (after : Core) (z : Numbers) (o : Outcome) (n : ℕ)
-    → isDischarge e ≡ false → length sheet ≡ SHEET-CELLS → CalledBare b a (call e 0) after z o n → CalledOn b a (call e PLACES) m sheet after z sheet o n
-bare-on b a e m sheet after z o n none long d =
+pub bare-on : (b : Core) (a : Numbers) (e : Event) (sheet : List ℕ) (after : Core) (z : Numbers) (o : Outcome) (n : ℕ)
+    → isDischarge e ≡ false → length sheet ≡ SHEET-CELLS → CalledBare b a (call e 0) after z o n → CalledOn b a (call e PLACES) sheet after z sheet o n
+bare-on b a e sheet after z o n none long d =
     let same : refusal (bookOf b a) (call e 0) ≡ refusal (bookOf b a) (call e PLACES) = any-sheet (bookOf b a) e 0 PLACES none in
+    let r = other-sheet (keptOf b a) e 0 PLACES same (keptOf after z) o [] (d .called .returned) in
     record {
-      called =
-          rw (d .none)
-          (record {
-            returned = other-sheet (keptOf b a) e 0 PLACES same (keptOf after z) o [] (d .called .returned);
-            lent = d .called .lent;
-            kept = λ k. d .called .kept (λ z. k (sym same ∙ z));
-          });
+      called = rw (d .none) (record { returned = r; lent = d .called .lent; kept = λ k. d .called .kept (λ z. k (sym same ∙ z)) });
+      filled = ap (λ (xs : List Piece). sheetWith xs sheet) (r .pieces);
       places = long;
       few = omega (arith, d .none);
-      kept = λ k. refl;
     }
 
 -- the event x, which is e: what its call returned, where it was made by the call of its kind
@@ -75,4 +70,4 @@ module _ (b : Core) (a : Numbers) (x : Event) (after : Core) (z : Numbers) (left
   stepped-on sheet = subst (λ (y : Event). Stepped b a y sheet after z left o n) (sym is)
 
   pub stepped-bare : isDischarge e ≡ false → length left ≡ SHEET-CELLS → CalledBare b a (call e 0) after z o n → Stepped b a x left after z left o n
-  stepped-bare none long d = stepped-on left (bare-on b a e (mannerOf e) left after z o n none long d)
+  stepped-bare none long d = stepped-on left (bare-on b a e left after z o n none long d)

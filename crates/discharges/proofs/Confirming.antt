@@ -32,7 +32,7 @@ use Rattle.kept.proofs.Discharging.{awards-many, lookup-there, missing-number, 
 use Rattle.machine.specs.declared.Core.{Core}
 use Rattle.machine.specs.View.{Numbers, numbers, followed, followedIn, keptOf, bookOf, Held, Taken, CalledOn, Discharging, Discharged}
 use Rattle.machine.proofs.Returns.{refused-on, taken-on}
-use Rattle.discharges.proofs.Walking.{row-is, discharging}
+use Rattle.discharges.proofs.Walking.{row-is, discharging, filled-read}
 use Rattle.plain.proofs.Numbered.{nth-take, nth-all}
 
 -- the award of a number that is in use, as its row has it
@@ -42,9 +42,9 @@ award-read b a n award in-use row = row ∙ sym (nth-take noAward (awardsOf (a .
 
 module _ (b : Core) (a : Numbers) (h : Held b a) (c : Confirm) where
   pub confirm-missing : (number : ℕ) (sheet : List ℕ) → number ≡ first (lookupReasons 1024 (b .awards) (c .award)) → number ≢ 0 → length sheet ≡ SHEET-CELLS
-      → CalledOn b a (call (event.Confirm c) 1024) manner.BoughtIn sheet b a sheet (outcome.Refused number) 0
+      → CalledOn b a (call (event.Confirm c) 1024) sheet b a sheet (outcome.Refused number) 0
   confirm-missing number sheet e some long =
-      refused-on b a (call (event.Confirm c) 1024) manner.BoughtIn sheet number h (missing-number (lookupReasons 1024 _ _) _ _ (confirm-split (keptOf b a) (h .valid) c 1024) number e some) some long
+      refused-on b a (call (event.Confirm c) 1024) sheet number h (missing-number (lookupReasons 1024 _ _) _ _ (confirm-split (keptOf b a) (h .valid) c 1024) number e some) some long
 
   module _ (award : Award) (number : ℕ) (there : first (lookupReasons 1024 (b .awards) (c .award)) ≡ 0) (row : award ≡ getD (awardsOf (a .awards)) (c .award - 1) noAward) (is : number ≡ first (confirmReasons award)) where
     number-is : refusal (bookOf b a) (call (event.Confirm c) 1024) ≡ number
@@ -53,8 +53,8 @@ module _ (b : Core) (a : Numbers) (h : Held b a) (c : Confirm) where
         let w = lookup-there 1024 (b .awards) (c .award) there in
         confirm-number (keptOf b a) (h .valid) c 1024 award number there (award-read b a (c .award) award w row) is
 
-    pub confirm-refused : (sheet : List ℕ) → number ≢ 0 → length sheet ≡ SHEET-CELLS → CalledOn b a (call (event.Confirm c) 1024) manner.BoughtIn sheet b a sheet (outcome.Refused number) 0
-    confirm-refused sheet some long = refused-on b a (call (event.Confirm c) 1024) manner.BoughtIn sheet number h number-is some long
+    pub confirm-refused : (sheet : List ℕ) → number ≢ 0 → length sheet ≡ SHEET-CELLS → CalledOn b a (call (event.Confirm c) 1024) sheet b a sheet (outcome.Refused number) 0
+    confirm-refused sheet some long = refused-on b a (call (event.Confirm c) 1024) sheet number h number-is some long
 
     pub confirm-accepted : number ≡ 0 → Taken b a (call (event.Confirm c) 1024)
     confirm-accepted z = record { held = h; accepted = number-is ∙ z }
@@ -89,12 +89,12 @@ module _ (b : Core) (a : Numbers) (c : Confirm) (t : Taken b a (call (event.Conf
     pub chargeable : Chargeable (a .ledger) (charge (p .member) (buyInCharge (award .quantity) (award .price) (p .reference)))
     chargeable = buy-in-charge (keptOf b a) (t .held .valid) c able award p award-is (own ∙ row-is b a (t .held) (award .position) short-there)
 
-    pub confirm-done : (zs ws cs ss fs sheet left : List ℕ) (made : ℕ) (l : Ledger) → Discharged (b .day .0) (a .rows) (b .positions) (award .position) (award .quantity) manner.BoughtIn zs cs left (followed ss fs (b .late)) made
+    pub confirm-done : (zs ws cs ss fs sheet left : List ℕ) (made : ℕ) (l : Ledger) → Discharged (b .day .0) (a .rows) sheet (b .positions) (award .position) (award .quantity) manner.BoughtIn zs cs left (followed ss fs (b .late)) made
         → l ≡ posted (a .ledger) (charge (p .member) (buyInCharge (award .quantity) (award .price) (p .reference)) ∷ [])
         → Confirmed (awardTable (a .awards) (b .awards)) (c .award) (awardTable ws (b .awards)) → length ws ≡ AWARD-CELLS
-        → CalledOn b a (call (event.Confirm c) 1024) manner.BoughtIn sheet b (numbers zs (a .trades) ws cs ss fs l) left (outcome.Done (award .quantity)) made
+        → CalledOn b a (call (event.Confirm c) 1024) sheet b (numbers zs (a .trades) ws cs ss fs l) left (outcome.Done (award .quantity)) made
     unfolding table.pieces
     confirm-done zs ws cs ss fs sheet left made l w posts marked long =
         let r = bought-in (keptOf b a) (t .held .valid) c award p _ l (awardTable ws (b .awards)) award-is (own ∙ row-is b a (t .held) (award .position) short-there) (w .dealt) posts marked in
-        taken-on b a (call (event.Confirm c) 1024) manner.BoughtIn sheet b (numbers zs (a .trades) ws cs ss fs l) left (award .quantity) made (t .held) (t .accepted) (r .quantity) (r .pieces) (r .book) (r .fits)
-        (record { rows = w .rows-length; trades = t .held .lent .trades; awards = long; follows = w .follows }) (w .sheet-length) (w .dealt .pieces-fit .held)
+        taken-on b a (call (event.Confirm c) 1024) sheet b (numbers zs (a .trades) ws cs ss fs l) left (award .quantity) made (t .held) (t .accepted) (r .quantity) (r .pieces) (r .book) (r .fits)
+        (record { rows = w .rows-length; trades = t .held .lent .trades; awards = long; follows = w .follows }) (filled-read w) (w .sheet-length) (w .dealt .pieces-fit .held)

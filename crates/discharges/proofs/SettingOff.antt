@@ -22,20 +22,20 @@ use Rattle.laws.specs.Asked.{Within}
 use Rattle.laws.specs.Refusals.{first}
 use Rattle.tables.specs.Tables as table
 use Rattle.tables.specs.Lent.{rowOf}
-use Rattle.positions.specs.Dealing.{Lowerable}
+use Rattle.rows.specs.Lowering.{Lowerable}
 use Rattle.positions.specs.Pairing.{SettingOff}
 use Rattle.kept.specs.View.{view}
 use Rattle.kept.proofs.Discharging.{both-there, missing-number, lowerable, pair-off-split, pair-off-number, paired-off}
 use Rattle.machine.specs.declared.Core.{Core}
 use Rattle.machine.specs.View.{Numbers, numbers, followed, followedIn, keptOf, bookOf, Held, CalledOn, PairingOff, PairedOff}
 use Rattle.machine.proofs.Returns.{refused-on, taken-on}
-use Rattle.discharges.proofs.Walking.{row-is, falling}
+use Rattle.discharges.proofs.Walking.{row-is, falling, filled-read}
 
 module _ (b : Core) (a : Numbers) (h : Held b a) (x : PairOff) where
   pub pair-off-missing : (number : ℕ) (sheet : List ℕ) → number ≡ first (bothLookupReasons 1024 (b .positions) (x .short) (x .long)) → number ≢ 0 → length sheet ≡ SHEET-CELLS
-      → CalledOn b a (call (event.PairOff x) 1024) manner.Paired sheet b a sheet (outcome.Refused number) 0
+      → CalledOn b a (call (event.PairOff x) 1024) sheet b a sheet (outcome.Refused number) 0
   pair-off-missing number sheet e some long =
-      refused-on b a (call (event.PairOff x) 1024) manner.Paired sheet number h (missing-number (bothLookupReasons 1024 _ _ _) _ _ (pair-off-split (keptOf b a) (h .valid) x 1024) number e some) some long
+      refused-on b a (call (event.PairOff x) 1024) sheet number h (missing-number (bothLookupReasons 1024 _ _ _) _ _ (pair-off-split (keptOf b a) (h .valid) x 1024) number e some) some long
 
   module _ (p q : Position) (reserved number : ℕ) (there : first (bothLookupReasons 1024 (b .positions) (x .short) (x .long)) ≡ 0) (own : p ≡ rowOf (a .rows) (x .short)) (other : q ≡ rowOf (a .rows) (x .long))
       (units : reserved ≡ unconfirmed (x .short) (table.awards (keptOf b a .awards))) (is : number ≡ first (pairOffReasons p q (b .day .0) (b .auction .position) (p .unsettled - reserved) x)) where
@@ -46,8 +46,8 @@ module _ (b : Core) (a : Numbers) (h : Held b a) (x : PairOff) where
     number-is =
         pair-off-number (keptOf b a) (h .valid) x 1024 p q reserved number there (own ∙ row-is b a h (x .short) (inside .0)) (other ∙ row-is b a h (x .long) (inside .1)) units is
 
-    pub pair-off-refused : (sheet : List ℕ) → number ≢ 0 → length sheet ≡ SHEET-CELLS → CalledOn b a (call (event.PairOff x) 1024) manner.Paired sheet b a sheet (outcome.Refused number) 0
-    pair-off-refused sheet some long = refused-on b a (call (event.PairOff x) 1024) manner.Paired sheet number h number-is some long
+    pub pair-off-refused : (sheet : List ℕ) → number ≢ 0 → length sheet ≡ SHEET-CELLS → CalledOn b a (call (event.PairOff x) 1024) sheet b a sheet (outcome.Refused number) 0
+    pair-off-refused sheet some long = refused-on b a (call (event.PairOff x) 1024) sheet number h number-is some long
 
     module _ (z : number ≡ 0) where
       taken : PairOffTaken (bookOf b a) x
@@ -78,11 +78,11 @@ module _ (b : Core) (a : Numbers) (h : Held b a) (x : PairOff) where
             falling = falling b a h (x .short) (x .quantity) manner.Paired (pairedPiece x ∷ []) (pair-deals (bookOf b a) x taken) p (taken .some-units) own;
           }
 
-      pub pair-off-done : (zs cs ws sheet left : List ℕ) → PairedOff (b .day .0) (a .rows) (b .positions) x zs cs left (followed (a .starts) ws (b .late))
-          → CalledOn b a (call (event.PairOff x) 1024) manner.Paired sheet b (numbers zs (a .trades) (a .awards) cs (a .starts) ws (a .ledger)) left (outcome.Done (x .quantity)) 1
+      pub pair-off-done : (zs cs ws sheet left : List ℕ) → PairedOff (b .day .0) (a .rows) sheet (b .positions) x zs cs left (followed (a .starts) ws (b .late))
+          → CalledOn b a (call (event.PairOff x) 1024) sheet b (numbers zs (a .trades) (a .awards) cs (a .starts) ws (a .ledger)) left (outcome.Done (x .quantity)) 1
       unfolding table.pieces
       pair-off-done zs cs ws sheet left w =
           let e = number-is ∙ z in
           let r = paired-off (keptOf b a) (h .valid) x _ (w .dealt) in
-          taken-on b a (call (event.PairOff x) 1024) manner.Paired sheet b (numbers zs (a .trades) (a .awards) cs (a .starts) ws (a .ledger)) left (x .quantity) 1 h e (r .quantity) (r .pieces) (r .book) (r .fits)
-          (record { rows = w .rows-length; trades = h .lent .trades; awards = h .lent .awards; follows = w .follows }) (w .sheet-length) (w .dealt .pieces-fit .held)
+          taken-on b a (call (event.PairOff x) 1024) sheet b (numbers zs (a .trades) (a .awards) cs (a .starts) ws (a .ledger)) left (x .quantity) 1 h e (r .quantity) (r .pieces) (r .book) (r .fits)
+          (record { rows = w .rows-length; trades = h .lent .trades; awards = h .lent .awards; follows = w .follows }) (filled-read w) (w .sheet-length) (w .dealt .pieces-fit .held)

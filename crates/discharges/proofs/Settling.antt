@@ -31,10 +31,10 @@ use Rattle.plain.proofs.Dealt.{deals}
 use Rattle.tables.specs.Tables.{Positions}
 use Rattle.tables.specs.declared.Pieces.{Pieces}
 use Rattle.tables.specs.Tables as table
-use Rattle.pieces.specs.Sheet.{piecesOf}
+use Rattle.pieces.specs.Sheet.{piecesOf, sheetWith}
 use Rattle.plain.proofs.Numbered.{nth-alike}
 use Rattle.laws.specs.Refusals.{first}
-use Rattle.ledger.specs.Tabled.{Accounted, Priced}
+use Rattle.ledger.specs.Tabled.{Accounted, Priced, PricedOn}
 use Rattle.ledger.proofs.Elements.{position-numbered}
 use Rattle.positions.specs.Dealing.{dealtOut}
 use Rattle.tables.specs.Lent.{positionTable, pieceTable, rowOf}
@@ -45,7 +45,7 @@ use Rattle.kept.proofs.Discharging.{positions-many, accounted, lookup-there, mi
 use Rattle.machine.specs.declared.Core.{Core}
 use Rattle.machine.specs.View.{Numbers, numbers, followed, followedIn, keptOf, bookOf, heldIn, Held, Taken, CashTerms, CalledOn, Discharging, Discharged}
 use Rattle.machine.proofs.Returns.{refused-on, taken-on}
-use Rattle.discharges.proofs.Walking.{row-is, discharging}
+use Rattle.discharges.proofs.Walking.{row-is, discharging, filled-read}
 
 -- a discharge leaves members and references as they are
 module _ (xs : List Piece) where
@@ -83,9 +83,9 @@ module _ (price : ℕ) (p q : Positions) (members : (k : ℕ) → nth noPosition
 -- the refusals
 module _ (b : Core) (a : Numbers) (h : Held b a) (c : Cash) where
   pub cash-missing : (number : ℕ) (sheet : List ℕ) → number ≡ first (lookupReasons 1024 (b .positions) (c .position)) → number ≢ 0 → length sheet ≡ SHEET-CELLS
-      → CalledOn b a (call (event.Cash c) 1024) manner.Cash sheet b a sheet (outcome.Refused number) 0
+      → CalledOn b a (call (event.Cash c) 1024) sheet b a sheet (outcome.Refused number) 0
   cash-missing number sheet e some long =
-      refused-on b a (call (event.Cash c) 1024) manner.Cash sheet number h (missing-number (lookupReasons 1024 _ _) _ _ (cash-split (keptOf b a) (h .valid) c 1024) number e some) some long
+      refused-on b a (call (event.Cash c) 1024) sheet number h (missing-number (lookupReasons 1024 _ _) _ _ (cash-split (keptOf b a) (h .valid) c 1024) number e some) some long
 
   module _ (p : Position) (class : ℕ) (latest : LatestPrice) (today : Step) (number : ℕ) (there : first (lookupReasons 1024 (b .positions) (c .position)) ≡ 0) (own : p ≡ rowOf (a .rows) (c .position))
       (classed : class ≡ nth 0 (b .opening .register .classes) (p .security)) (looked : latest ≡ lookedUp (nth noPrice (table.prices (b .prices)) (p .security)))
@@ -94,8 +94,8 @@ module _ (b : Core) (a : Numbers) (h : Held b a) (c : Cash) where
     number-is =
         cash-number (keptOf b a) (h .valid) c 1024 p class latest today number there (own ∙ row-is b a h (c .position) (lookup-there 1024 (b .positions) (c .position) there)) classed looked step is
 
-    pub cash-refused : (sheet : List ℕ) → number ≢ 0 → length sheet ≡ SHEET-CELLS → CalledOn b a (call (event.Cash c) 1024) manner.Cash sheet b a sheet (outcome.Refused number) 0
-    cash-refused sheet some long = refused-on b a (call (event.Cash c) 1024) manner.Cash sheet number h number-is some long
+    pub cash-refused : (sheet : List ℕ) → number ≢ 0 → length sheet ≡ SHEET-CELLS → CalledOn b a (call (event.Cash c) 1024) sheet b a sheet (outcome.Refused number) 0
+    cash-refused sheet some long = refused-on b a (call (event.Cash c) 1024) sheet number h number-is some long
 
     pub cash-accepted : number ≡ 0 → Taken b a (call (event.Cash c) 1024)
     cash-accepted z = record { held = h; accepted = number-is ∙ z }
@@ -128,12 +128,12 @@ module _ (b : Core) (a : Numbers) (c : Cash) (t : Taken b a (call (event.Cash c)
       discharging b a (t .held) (c .position) (p .unsettled) manner.Cash (cash-dealing (keptOf b a) v c able (p .unsettled) class latest by) p sheet
       (λ e. cash-taken (bookOf b a) c 1024 (t .accepted) .unsettled (sym (by .unsettled) ∙ e)) (terms .own) long
 
-  module _ (zs cs ss ws mid : List ℕ) (made : ℕ) (w : Discharged (b .day .0) (a .rows) (b .positions) (c .position) (p .unsettled) manner.Cash zs cs mid (followed ss ws (b .late)) made) where
+  module _ (sheet zs cs ss ws mid : List ℕ) (made : ℕ) (w : Discharged (b .day .0) (a .rows) sheet (b .positions) (c .position) (p .unsettled) manner.Cash zs cs mid (followed ss ws (b .late)) made) where
     abbrev left-table : Positions
     left-table = positionTable zs (b .positions)
 
     abbrev dealt-pieces : Pieces
-    dealt-pieces = pieceTable manner.Cash mid made
+    dealt-pieces = pieceTable mid made
 
     -- a field that no discharge changes
     same-field : (f : Position → ℕ) → ((xs : List Piece) (j : ℕ) (q : Position) → f (lowered xs j q) ≡ f q) → (k : ℕ) → f (nth noPosition (table.positions left-table) k) ≡ f (nth noPosition (table.positions old) k)
@@ -166,14 +166,14 @@ module _ (b : Core) (a : Numbers) (c : Cash) (t : Taken b a (call (event.Cash c)
         ∙ ap (λ (q : Position). map (payment (table.positions old)) (table.pieces x) ++ feeOf q latest ∷ []) own
 
     -- the pieces as they will be, before they are priced
-    ahead : Priced dealt-pieces price (record { items = map (pricedAt price) (piecesOf manner.Cash mid); count = made })
+    ahead : Priced dealt-pieces price (record { items = map (pricedAt price) (piecesOf mid); count = made })
     unfolding table.pieces
     ahead =
         let f = w .dealt .pieces-fit in
         record {
           many = refl;
-          priced = take-mapped (pricedAt price) made (piecesOf manner.Cash mid);
-          fit = record { places = length-map (piecesOf manner.Cash mid) (pricedAt price) ∙ f .places; held = f .held };
+          priced = take-mapped (pricedAt price) made (piecesOf mid);
+          fit = record { places = length-map (piecesOf mid) (pricedAt price) ∙ f .places; held = f .held };
         }
 
     shorts : All (λ x. x .short ≡ c .position) (table.pieces dealt-pieces)
@@ -197,11 +197,13 @@ module _ (b : Core) (a : Numbers) (c : Cash) (t : Taken b a (call (event.Cash c)
           account = rw (terms .own) (position-numbered old (g .positions-fit) Accounted (c .position) inside all .member);
         }
 
-    pub cash-done : (sheet left : List ℕ) (l : Ledger) → Priced dealt-pieces price (pieceTable manner.Cash left made)
-        → l ≡ posted (a .ledger) (settlementOf class latest p left-table dealt-pieces) → length left ≡ SHEET-CELLS
-        → CalledOn b a (call (event.Cash c) 1024) manner.Cash sheet b (numbers zs (a .trades) (a .awards) cs ss ws l) left (outcome.Done (p .unsettled)) made
+    pub cash-done : (left : List ℕ) (l : Ledger) → PricedOn mid made price left
+        → l ≡ posted (a .ledger) (settlementOf class latest p left-table dealt-pieces)
+        → CalledOn b a (call (event.Cash c) 1024) sheet b (numbers zs (a .trades) (a .awards) cs ss ws l) left (outcome.Done (p .unsettled)) made
     unfolding table.pieces
-    cash-done sheet left l g posts long =
-        let r = settled (keptOf b a) v c able (p .unsettled) class latest by _ (w .dealt) price price-same (pieceTable manner.Cash left made) g l (posts ∙ ap (posted (a .ledger)) (charges-are (pieceTable manner.Cash left made) g)) in
-        taken-on b a (call (event.Cash c) 1024) manner.Cash sheet b (numbers zs (a .trades) (a .awards) cs ss ws l) left (p .unsettled) made (t .held) (t .accepted) (r .quantity) (r .pieces) (r .book) (r .fits)
-        (record { rows = w .rows-length; trades = t .held .lent .trades; awards = t .held .lent .awards; follows = w .follows }) long (w .dealt .pieces-fit .held)
+    cash-done left l on posts =
+        let g = on .priced in
+        let r = settled (keptOf b a) v c able (p .unsettled) class latest by _ (w .dealt) price price-same (pieceTable left made) g l (posts ∙ ap (posted (a .ledger)) (charges-are (pieceTable left made) g)) in
+        taken-on b a (call (event.Cash c) 1024) sheet b (numbers zs (a .trades) (a .awards) cs ss ws l) left (p .unsettled) made (t .held) (t .accepted) (r .quantity) (r .pieces) (r .book) (r .fits)
+        (record { rows = w .rows-length; trades = t .held .lent .trades; awards = t .held .lent .awards; follows = w .follows })
+        (on .filled sheet (filled-read w) ∙ ap (λ (xs : List Piece). sheetWith xs sheet) (sym (g .priced))) (on .sheet-length) (w .dealt .pieces-fit .held)

@@ -1,7 +1,7 @@
 -- A discharge on the lent tables: what dealing it out asks of what is held, and what is followed of the positions after it.
 use Prim.Native.Nat.{ℕ, _-_, _≤_}
 use native.Mathlib.Omega.{arith}
-use mathlib.Core.Path.{_≡_, refl, _∙_, subst}
+use mathlib.Core.Path.{_≡_, refl, ap, sym, _∙_, subst}
 use mathlib.Core.Bool.{true}
 use mathlib.Core.Logic.{_≢_}
 use mathlib.Core.List.{List}
@@ -18,7 +18,8 @@ use Rattle.plain.proofs.Dealt.{deals}
 use Rattle.plain.specs.Invariants.{Dealable, Deals}
 use Rattle.rows.specs.Rows.{rowsOf}
 use Rattle.tables.specs.Tables as table
-use Rattle.tables.specs.Lent.{positionTable, rowOf}
+use Rattle.pieces.specs.Sheet.{sheetWith}
+use Rattle.tables.specs.Lent.{positionTable, pieceTable, rowOf}
 use Rattle.failing.specs.Counts.{Counted, UnitsOf, Lowered}
 use Rattle.failing.proofs.Discharging.{lowering-lowered, late-before-lowered}
 use Rattle.positions.specs.Dealing.{Dealing, dealtOut, ClosedBefore}
@@ -26,7 +27,7 @@ use Rattle.kept.specs.View.{view}
 use Rattle.kept.proofs.Discharging.{positions-many, cash-security}
 use Rattle.kept.proofs.Auctions.{position-is, members-fit}
 use Rattle.machine.specs.declared.Core.{Core}
-use Rattle.machine.specs.View.{Numbers, Followed, followedIn, keptOf, bookOf, heldIn, Started, Follows, Held, Falling, Discharging}
+use Rattle.machine.specs.View.{Numbers, Followed, followedIn, keptOf, bookOf, heldIn, Started, Follows, Held, Falling, Discharging, DischargedBy}
 use Rattle.discharges.proofs.Started.{started-kept, started-after}
 use Rattle.plain.proofs.Numbered.{nth-all}
 
@@ -87,6 +88,11 @@ module _ (b : Core) (a : Numbers) (h : Held b a) where
         record { dealing = d; falling = falling n q m _ dealt-of p some e; rows-length = h .lent .rows; sheet-length = long }
 
 -- What is left
+
+-- the pieces that fill the sheet are those that are read from it
+pub filled-read : {day count made : ℕ} {rows sheet after counts left : List ℕ} {xs : List Piece} {f : Followed} → DischargedBy day rows sheet count xs after counts left f made
+    → left ≡ sheetWith (table.pieces (pieceTable left made)) sheet
+filled-read {sheet = sheet} w = w .filled ∙ ap (λ (ys : List Piece). sheetWith ys sheet) (sym (w .dealt .pieces))
 
 module _ (day : ℕ) (rows : List ℕ) (count : ℕ) (counts : List ℕ) (f : Followed) (n : ℕ) (p : Position) (q : ℕ) (m : Manner) (xs : List Piece)
     (asks : Falling day rows count counts f n p q m xs) where

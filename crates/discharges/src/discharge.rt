@@ -59,7 +59,7 @@ fn discharge(
     manner: Manner,
 ) -> usize
     requires { ⌜ ((late : ℕ) × Discharging (day .0) (now rows) held (now counts) (now sheet) (followed (now starts) (now words) late) position p quantity manner) ⌝ }
-    ensures { λ r. ⌜ ((late : ℕ) → Discharging (day .0) (now (rows .entry)) held (now (counts .entry)) (now (sheet .entry)) (followed (now (starts .entry)) (now (words .entry)) late) position p quantity manner → Discharged (day .0) (now (rows .entry)) held position quantity manner (now (rows .exit)) (now (counts .exit)) (now (sheet .exit)) (followed (now (starts .exit)) (now (words .exit)) late) r) ⌝ }
+    ensures { λ r. ⌜ ((late : ℕ) → Discharging (day .0) (now (rows .entry)) held (now (counts .entry)) (now (sheet .entry)) (followed (now (starts .entry)) (now (words .entry)) late) position p quantity manner → Discharged (day .0) (now (rows .entry)) (now (sheet .entry)) held position quantity manner (now (rows .exit)) (now (counts .exit)) (now (sheet .exit)) (followed (now (starts .exit)) (now (words .exit)) late) r) ⌝ }
 {
     let start = start_of(starts, p.security);
     let walked = positions::deal(rows, sheet, held, day, position, quantity, manner, start);
@@ -80,7 +80,7 @@ pub fn delivery(
     d: Delivery,
 ) -> Answered
     requires { ⌜ ((trades : List ℕ) × (accounts : Ledger) × Held core (numbers (now rows) trades (now awards) (now counts) (now starts) (now words) accounts)) × (length (now sheet) ≡ SHEET-CELLS) ⌝ }
-    ensures { λ r. ⌜ ((trades : List ℕ) (accounts : Ledger) → Held core (numbers (now (rows .entry)) trades (now (awards .entry)) (now (counts .entry)) (now (starts .entry)) (now (words .entry)) accounts) → CalledOn core (numbers (now (rows .entry)) trades (now (awards .entry)) (now (counts .entry)) (now (starts .entry)) (now (words .entry)) accounts) (call (event.Delivery d) PLACES) manner.Delivered (now (sheet .entry)) (r .core) (numbers (now (rows .exit)) trades (now (awards .entry)) (now (counts .exit)) (now (starts .exit)) (now (words .exit)) accounts) (now (sheet .exit)) (r .outcome) (r .pieces)) ⌝ }
+    ensures { λ r. ⌜ ((trades : List ℕ) (accounts : Ledger) → Held core (numbers (now (rows .entry)) trades (now (awards .entry)) (now (counts .entry)) (now (starts .entry)) (now (words .entry)) accounts) → CalledOn core (numbers (now (rows .entry)) trades (now (awards .entry)) (now (counts .entry)) (now (starts .entry)) (now (words .entry)) accounts) (call (event.Delivery d) PLACES) (now (sheet .entry)) (r .core) (numbers (now (rows .exit)) trades (now (awards .entry)) (now (counts .exit)) (now (starts .exit)) (now (words .exit)) accounts) (now (sheet .exit)) (r .outcome) (r .pieces)) ⌝ }
 {
     let missing = refusals::lookup_refusal(PLACES, core.positions, d.position);
     if missing != 0 {
@@ -124,7 +124,7 @@ fn buy_in(
     award: Award,
 ) -> Answered
     requires { ⌜ ((trades : List ℕ) × Taken core (numbers (now rows) trades (now awards) (now counts) (now starts) (now words) (ledgerOf (now credits) (now debits))) (call (event.Confirm c) PLACES)) × (award ≡ getD (awardsOf (now awards)) (c .award - 1) noAward) × (length (now sheet) ≡ SHEET-CELLS) ⌝ }
-    ensures { λ r. ⌜ ((trades : List ℕ) → Taken core (numbers (now (rows .entry)) trades (now (awards .entry)) (now (counts .entry)) (now (starts .entry)) (now (words .entry)) (ledgerOf (now (credits .entry)) (now (debits .entry)))) (call (event.Confirm c) PLACES) → CalledOn core (numbers (now (rows .entry)) trades (now (awards .entry)) (now (counts .entry)) (now (starts .entry)) (now (words .entry)) (ledgerOf (now (credits .entry)) (now (debits .entry)))) (call (event.Confirm c) PLACES) manner.BoughtIn (now (sheet .entry)) (r .core) (numbers (now (rows .exit)) trades (now (awards .exit)) (now (counts .exit)) (now (starts .exit)) (now (words .exit)) (ledgerOf (now (credits .exit)) (now (debits .exit)))) (now (sheet .exit)) (r .outcome) (r .pieces)) ⌝ }
+    ensures { λ r. ⌜ ((trades : List ℕ) → Taken core (numbers (now (rows .entry)) trades (now (awards .entry)) (now (counts .entry)) (now (starts .entry)) (now (words .entry)) (ledgerOf (now (credits .entry)) (now (debits .entry)))) (call (event.Confirm c) PLACES) → CalledOn core (numbers (now (rows .entry)) trades (now (awards .entry)) (now (counts .entry)) (now (starts .entry)) (now (words .entry)) (ledgerOf (now (credits .entry)) (now (debits .entry)))) (call (event.Confirm c) PLACES) (now (sheet .entry)) (r .core) (numbers (now (rows .exit)) trades (now (awards .exit)) (now (counts .exit)) (now (starts .exit)) (now (words .exit)) (ledgerOf (now (credits .exit)) (now (debits .exit)))) (now (sheet .exit)) (r .outcome) (r .pieces)) ⌝ }
 {
     let place = (award.position - 1) as usize;
     let p = rows::row_at(rows, place);
@@ -166,7 +166,7 @@ pub fn confirm(
     c: Confirm,
 ) -> Answered
     requires { ⌜ ((trades : List ℕ) × Held core (numbers (now rows) trades (now awards) (now counts) (now starts) (now words) (ledgerOf (now credits) (now debits)))) × (length (now sheet) ≡ SHEET-CELLS) ⌝ }
-    ensures { λ r. ⌜ ((trades : List ℕ) → Held core (numbers (now (rows .entry)) trades (now (awards .entry)) (now (counts .entry)) (now (starts .entry)) (now (words .entry)) (ledgerOf (now (credits .entry)) (now (debits .entry)))) → CalledOn core (numbers (now (rows .entry)) trades (now (awards .entry)) (now (counts .entry)) (now (starts .entry)) (now (words .entry)) (ledgerOf (now (credits .entry)) (now (debits .entry)))) (call (event.Confirm c) PLACES) manner.BoughtIn (now (sheet .entry)) (r .core) (numbers (now (rows .exit)) trades (now (awards .exit)) (now (counts .exit)) (now (starts .exit)) (now (words .exit)) (ledgerOf (now (credits .exit)) (now (debits .exit)))) (now (sheet .exit)) (r .outcome) (r .pieces)) ⌝ }
+    ensures { λ r. ⌜ ((trades : List ℕ) → Held core (numbers (now (rows .entry)) trades (now (awards .entry)) (now (counts .entry)) (now (starts .entry)) (now (words .entry)) (ledgerOf (now (credits .entry)) (now (debits .entry)))) → CalledOn core (numbers (now (rows .entry)) trades (now (awards .entry)) (now (counts .entry)) (now (starts .entry)) (now (words .entry)) (ledgerOf (now (credits .entry)) (now (debits .entry)))) (call (event.Confirm c) PLACES) (now (sheet .entry)) (r .core) (numbers (now (rows .exit)) trades (now (awards .exit)) (now (counts .exit)) (now (starts .exit)) (now (words .exit)) (ledgerOf (now (credits .exit)) (now (debits .exit)))) (now (sheet .exit)) (r .outcome) (r .pieces)) ⌝ }
 {
     let missing = refusals::lookup_refusal(PLACES, core.awards, c.award);
     if missing != 0 {
@@ -209,7 +209,7 @@ fn settle(
     latest: u32,
 ) -> Answered
     requires { ⌜ ((trades awards : List ℕ) × Taken core (numbers (now rows) trades awards (now counts) (now starts) (now words) (ledgerOf (now credits) (now debits))) (call (event.Cash c) PLACES)) × (CashTerms core (now rows) (c .position) p class latest) × (length (now sheet) ≡ SHEET-CELLS) ⌝ }
-    ensures { λ r. ⌜ ((trades awards : List ℕ) → Taken core (numbers (now (rows .entry)) trades awards (now (counts .entry)) (now (starts .entry)) (now (words .entry)) (ledgerOf (now (credits .entry)) (now (debits .entry)))) (call (event.Cash c) PLACES) → CalledOn core (numbers (now (rows .entry)) trades awards (now (counts .entry)) (now (starts .entry)) (now (words .entry)) (ledgerOf (now (credits .entry)) (now (debits .entry)))) (call (event.Cash c) PLACES) manner.Cash (now (sheet .entry)) (r .core) (numbers (now (rows .exit)) trades awards (now (counts .exit)) (now (starts .exit)) (now (words .exit)) (ledgerOf (now (credits .exit)) (now (debits .exit)))) (now (sheet .exit)) (r .outcome) (r .pieces)) ⌝ }
+    ensures { λ r. ⌜ ((trades awards : List ℕ) → Taken core (numbers (now (rows .entry)) trades awards (now (counts .entry)) (now (starts .entry)) (now (words .entry)) (ledgerOf (now (credits .entry)) (now (debits .entry)))) (call (event.Cash c) PLACES) → CalledOn core (numbers (now (rows .entry)) trades awards (now (counts .entry)) (now (starts .entry)) (now (words .entry)) (ledgerOf (now (credits .entry)) (now (debits .entry)))) (call (event.Cash c) PLACES) (now (sheet .entry)) (r .core) (numbers (now (rows .exit)) trades awards (now (counts .exit)) (now (starts .exit)) (now (words .exit)) (ledgerOf (now (credits .exit)) (now (debits .exit)))) (now (sheet .exit)) (r .outcome) (r .pieces)) ⌝ }
 {
     let made = discharge(
         rows,
@@ -241,7 +241,7 @@ pub fn cash(
     c: Cash,
 ) -> Answered
     requires { ⌜ ((trades awards : List ℕ) × Held core (numbers (now rows) trades awards (now counts) (now starts) (now words) (ledgerOf (now credits) (now debits)))) × (length (now sheet) ≡ SHEET-CELLS) ⌝ }
-    ensures { λ r. ⌜ ((trades awards : List ℕ) → Held core (numbers (now (rows .entry)) trades awards (now (counts .entry)) (now (starts .entry)) (now (words .entry)) (ledgerOf (now (credits .entry)) (now (debits .entry)))) → CalledOn core (numbers (now (rows .entry)) trades awards (now (counts .entry)) (now (starts .entry)) (now (words .entry)) (ledgerOf (now (credits .entry)) (now (debits .entry)))) (call (event.Cash c) PLACES) manner.Cash (now (sheet .entry)) (r .core) (numbers (now (rows .exit)) trades awards (now (counts .exit)) (now (starts .exit)) (now (words .exit)) (ledgerOf (now (credits .exit)) (now (debits .exit)))) (now (sheet .exit)) (r .outcome) (r .pieces)) ⌝ }
+    ensures { λ r. ⌜ ((trades awards : List ℕ) → Held core (numbers (now (rows .entry)) trades awards (now (counts .entry)) (now (starts .entry)) (now (words .entry)) (ledgerOf (now (credits .entry)) (now (debits .entry)))) → CalledOn core (numbers (now (rows .entry)) trades awards (now (counts .entry)) (now (starts .entry)) (now (words .entry)) (ledgerOf (now (credits .entry)) (now (debits .entry)))) (call (event.Cash c) PLACES) (now (sheet .entry)) (r .core) (numbers (now (rows .exit)) trades awards (now (counts .exit)) (now (starts .exit)) (now (words .exit)) (ledgerOf (now (credits .exit)) (now (debits .exit)))) (now (sheet .exit)) (r .outcome) (r .pieces)) ⌝ }
 {
     let missing = refusals::lookup_refusal(PLACES, core.positions, c.position);
     if missing != 0 {

@@ -35,7 +35,7 @@ fn set_off(
     x: PairOff,
 )
     requires { ⌜ ((held : ℕ) × (starts : List ℕ) × (late : ℕ) × PairingOff (day .0) (now rows) held (now counts) (now sheet) (followed starts (now words) late) p x) ⌝ }
-    ensures { λ r. ⌜ ((held : ℕ) (starts : List ℕ) (late : ℕ) → PairingOff (day .0) (now (rows .entry)) held (now (counts .entry)) (now (sheet .entry)) (followed starts (now (words .entry)) late) p x → PairedOff (day .0) (now (rows .entry)) held x (now (rows .exit)) (now (counts .exit)) (now (sheet .exit)) (followed starts (now (words .exit)) late)) ⌝ }
+    ensures { λ r. ⌜ ((held : ℕ) (starts : List ℕ) (late : ℕ) → PairingOff (day .0) (now (rows .entry)) held (now (counts .entry)) (now (sheet .entry)) (followed starts (now (words .entry)) late) p x → PairedOff (day .0) (now (rows .entry)) (now (sheet .entry)) held x (now (rows .exit)) (now (counts .exit)) (now (sheet .exit)) (followed starts (now (words .exit)) late)) ⌝ }
 {
     positions::set_off(rows, sheet, x.short, x.long as u16, x.quantity);
     failing::discharged(words, counts, p, x.quantity, day);
@@ -51,7 +51,7 @@ pub fn pair_off(
     x: PairOff,
 ) -> Answered
     requires { ⌜ ((trades starts : List ℕ) × (accounts : Ledger) × Held core (numbers (now rows) trades (now awards) (now counts) starts (now words) accounts)) × (length (now sheet) ≡ SHEET-CELLS) ⌝ }
-    ensures { λ r. ⌜ ((trades starts : List ℕ) (accounts : Ledger) → Held core (numbers (now (rows .entry)) trades (now (awards .entry)) (now (counts .entry)) starts (now (words .entry)) accounts) → CalledOn core (numbers (now (rows .entry)) trades (now (awards .entry)) (now (counts .entry)) starts (now (words .entry)) accounts) (call (event.PairOff x) PLACES) manner.Paired (now (sheet .entry)) (r .core) (numbers (now (rows .exit)) trades (now (awards .entry)) (now (counts .exit)) starts (now (words .exit)) accounts) (now (sheet .exit)) (r .outcome) (r .pieces)) ⌝ }
+    ensures { λ r. ⌜ ((trades starts : List ℕ) (accounts : Ledger) → Held core (numbers (now (rows .entry)) trades (now (awards .entry)) (now (counts .entry)) starts (now (words .entry)) accounts) → CalledOn core (numbers (now (rows .entry)) trades (now (awards .entry)) (now (counts .entry)) starts (now (words .entry)) accounts) (call (event.PairOff x) PLACES) (now (sheet .entry)) (r .core) (numbers (now (rows .exit)) trades (now (awards .entry)) (now (counts .exit)) starts (now (words .exit)) accounts) (now (sheet .exit)) (r .outcome) (r .pieces)) ⌝ }
 {
     let missing = refusals::both_lookup_refusal(PLACES, core.positions, x.short, x.long);
     if missing != 0 {

@@ -42,7 +42,7 @@ use Rattle.plain.proofs.Covering.{covered}
 use Rattle.plain.proofs.Confirmed.{seller-pays}
 use Rattle.plain.proofs.Accounts.{done-places, new-places, next-balance}
 use Rattle.plain.proofs.Claim as told
-use Rattle.pieces.specs.Sheet.{piecesOf}
+use Rattle.pieces.specs.Sheet.{piecesOf, sheetWith}
 use Rattle.pieces.proofs.Cells.{length-pieces}
 use Rattle.kept.specs.View.{answer, numberOf, quantityOf}
 use Rattle.machine.specs.View.{Called}
@@ -218,11 +218,11 @@ filled : {s : Stand} {c : Call} {r : Return} → Answers s c r → Filled s c r
 unfolding whole.view
 filled (bare d) =
     record { count = d .none ∙ ap length (d .called .returned .pieces); filled = d .called .returned .pieces; kept = λ e. tt }
-filled (onNumbers {m = m} {exit = exit} {n = n} d) =
+filled {s} {c} (onNumbers {entry = entry} {exit = exit} {n = n} d) =
     record {
-      count = sym (length-take-le n (piecesOf m exit) (omega (arith, d .few, length-pieces m exit))) ∙ ap length (d .called .returned .pieces);
-      filled = d .called .returned .pieces;
-      kept = λ e. d .kept (turned-down (onNumbers d) e);
+      count = sym (length-take-le n (piecesOf exit) (omega (arith, d .few, length-pieces exit))) ∙ ap length (d .called .returned .pieces);
+      filled = d .filled;
+      kept = λ e. d .filled ∙ ap (λ (xs : List Piece). sheetWith xs entry) (discharges.refused (view s) c (turned-down (onNumbers d) e) .pieces');
     }
 filled {s} {c} (byValue k) =
     record {

@@ -31,7 +31,7 @@ use Rattle.plain.specs.Cover.{unitsOf, Cheapest, added, PaysLeast, confirmation
 use Rattle.plain.specs.Invariants.{DueLong, NeedsPrice, GivenToday}
 use Rattle.plain.specs.Sound.{Small}
 use Rattle.plain.specs.Claim.{OnePrice, NettedByKind}
-use Rattle.pieces.specs.Sheet.{piecesOf}
+use Rattle.pieces.specs.Sheet.{sheetWith}
 use Rattle.kept.specs.View.{answer, numberOf, quantityOf}
 use Rattle.reading.specs.declared.PositionAnswer.the-variants.{Found}
 use Rattle.reading.specs.declared.AwardAnswer.{AwardAnswer}
@@ -133,17 +133,17 @@ abbrev pub Kept : Stand → Call → Return → Type 0
 Kept s c r = numberOf (r .outcome) ≢ 0 → (r .stand ≡ s) × (piecesOn r ≡ []) × (quantityOf (r .outcome) ≡ 0)
 
 -- what a call's sheet holds as it returned, with so many pieces: "The pieces fill the first places of a lent sheet ..; later places keep their
--- content". The later places of a sheet of numbers are free
+-- content"
 abbrev pub Holds : Sheet → ℕ → List Piece → Type 0
 Holds noSheet n xs = [] ≡ xs
-Holds (numberSheet m entry exit) n xs = take n (piecesOf m exit) ≡ xs
+Holds (numberSheet entry exit) n xs = exit ≡ sheetWith xs entry
 Holds (pieceSheet entry exit) n xs = exit ≡ xs ++ drop n entry
 Holds (handedBack ys) n xs = ys ≡ xs
 
 -- a sheet as at entry
 abbrev pub AsAtEntry : Sheet → Type 0
 AsAtEntry noSheet = Unit {0}
-AsAtEntry (numberSheet m entry exit) = exit ≡ entry
+AsAtEntry (numberSheet entry exit) = exit ≡ entry
 AsAtEntry (pieceSheet entry exit) = exit ≡ entry
 AsAtEntry (handedBack xs) = xs ≡ []
 
@@ -204,5 +204,5 @@ pub record History (opening : Opening) (s : Stand) (cs : List Call) (rs : List R
   pub small : (k : ℕ) → Small (view (last s rs)) k
   -- a refused call returns the very same core, leaves every table as it was, hands out no pieces and reports quantity 0
   pub refused : Each Kept s cs rs
-  -- each call's sheet holds the plain book's pieces, a sheet of structs after them the places as at entry; a refused call's is as at entry
+  -- each call's sheet holds the plain book's pieces, and after them the places as at entry; a refused call's is as at entry
   pub filled : Each Filled s cs rs

@@ -6,7 +6,6 @@ use lib.ListN.{length, take}
 use Rattle.laws.specs.Lists.{each}
 use Rattle.events.specs.declared.Event.{Event}
 use Rattle.plain.specs.declared.Piece.{Piece}
-use Rattle.plain.specs.declared.Manner.{Manner}
 use Rattle.plain.specs.declared.Outcome.{Outcome}
 use Rattle.plain.specs.Book as plain
 use Rattle.plain.specs.Calls.{Call, call}
@@ -33,18 +32,18 @@ standOf b = record { core = b .core; numbers = numbersIn b }
 abbrev pub view : Stand → plain.Book
 view s = bookOf (s .core) (s .numbers)
 
--- where a call's pieces stand: the call has no sheet; on a lent sheet of numbers, in the call's manner, or of structs, each as at entry and as
--- it returned; or in what it hands back by value
+-- where a call's pieces stand: the call has no sheet; on a lent sheet of numbers or of structs, each as at entry and as it returned; or in what it hands back
+-- by value
 pub data Sheet : Type 0 where
   noSheet : Sheet
-  numberSheet : Manner → List ℕ → List ℕ → Sheet
+  numberSheet : List ℕ → List ℕ → Sheet
   pieceSheet : List Piece → List Piece → Sheet
   handedBack : List Piece → Sheet
 
 -- the places of a sheet as the call returned
 abbrev pub placesOf : Sheet → List Piece
 placesOf noSheet = []
-placesOf (numberSheet m entry exit) = piecesOf m exit
+placesOf (numberSheet entry exit) = piecesOf exit
 placesOf (pieceSheet entry exit) = exit
 placesOf (handedBack xs) = xs
 
@@ -64,8 +63,8 @@ piecesOn r = take (r .count) (placesOf (r .sheet))
 pub data Answers : Stand → Call → Return → Type 0 where
   bare : {s z : Stand} {c : Call} {o : Outcome} {n : ℕ} → CalledBare (s .core) (s .numbers) c (z .core) (z .numbers) o n
       → Answers s c (record { stand = z; outcome = o; sheet = noSheet; count = n })
-  onNumbers : {s z : Stand} {c : Call} {m : Manner} {entry exit : List ℕ} {o : Outcome} {n : ℕ} → CalledOn (s .core) (s .numbers) c m entry (z .core) (z .numbers) exit o n
-      → Answers s c (record { stand = z; outcome = o; sheet = numberSheet m entry exit; count = n })
+  onNumbers : {s z : Stand} {c : Call} {entry exit : List ℕ} {o : Outcome} {n : ℕ} → CalledOn (s .core) (s .numbers) c entry (z .core) (z .numbers) exit o n
+      → Answers s c (record { stand = z; outcome = o; sheet = numberSheet entry exit; count = n })
   byValue : {b after : Book} {c : Call} {o : Outcome} {xs : List Piece} → Returned b c after o xs
       → Answers (standOf b) c (record { stand = standOf after; outcome = o; sheet = handedBack xs; count = length xs })
   lent : {b after : Book} {e : Event} {entry exit : List Piece} {o : Outcome} {n : ℕ} → ReturnedOn b e entry exit after o n

@@ -50,7 +50,8 @@ use Rattle.plain.proofs.Claim.{bounding, accountable}
 use Rattle.tables.specs.Tables.{Positions, Awards}
 use Rattle.tables.specs.declared.Pieces.{Pieces}
 use Rattle.tables.specs.Tables as table
-use Rattle.positions.specs.Dealing.{Lowerable, Dealing, HandedOut, DealtOut, Dealt}
+use Rattle.rows.specs.Lowering.{Lowerable}
+use Rattle.positions.specs.Dealing.{Dealing, HandedOut, DealtOut, Dealt}
 use Rattle.auction.specs.Awards.{Countable, Confirmable, Confirmed}
 use Rattle.ledger.specs.Posts.{Room}
 use Rattle.ledger.specs.Tabled.{Chargeable, Accounted, Paired, Priceable, Priced}

@@ -54,7 +54,7 @@ MOST-NETTED = 512000000
 abbrev pub EVENTS : ℕ
 EVENTS = 2048
 
--- how many numbers each lent table of the machine's book has: twelve a position, seven a trade, five an award, four a piece, and one for each security
+-- how many numbers each lent table of the machine's book has: twelve a position, seven a trade, five an award, five a piece, and one for each security
 -- and account, in which the late open shorts are counted
 abbrev pub POSITION-CELLS : ℕ
 POSITION-CELLS = 12 * POSITIONS
@@ -65,8 +65,11 @@ TRADE-CELLS = 7 * TRADES
 abbrev pub AWARD-CELLS : ℕ
 AWARD-CELLS = 5 * AWARDS
 
+abbrev pub PIECE-WIDTH : ℕ
+PIECE-WIDTH = 5
+
 abbrev pub SHEET-CELLS : ℕ
-SHEET-CELLS = 4 * PLACES
+SHEET-CELLS = PIECE-WIDTH * PLACES
 
 abbrev pub COUNT-CELLS : ℕ
 COUNT-CELLS = SECURITIES * ACCOUNTS

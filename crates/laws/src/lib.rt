@@ -36,7 +36,7 @@ pub const MOST_PRICE: u32 = 10_000_000;
 
 pub const EVENTS: usize = 2_048;
 
-// How many numbers each lent table has: twelve a position, seven a trade, five an award, four a piece, and one for each security and account, in which
+// How many numbers each lent table has: twelve a position, seven a trade, five an award, five a piece, and one for each security and account, in which
 // the late open shorts are counted.
 pub const POSITION_CELLS: usize = 12 * POSITIONS;
 
@@ -44,6 +44,8 @@ pub const TRADE_CELLS: usize = 7 * TRADES;
 
 pub const AWARD_CELLS: usize = 5 * AWARDS;
 
-pub const SHEET_CELLS: usize = 4 * PLACES;
+pub const PIECE_WIDTH: usize = 5;
+
+pub const SHEET_CELLS: usize = PIECE_WIDTH * PLACES;
 
 pub const COUNT_CELLS: usize = SECURITIES * ACCOUNTS;

@@ -9,11 +9,10 @@ use lib.Seq.{take-suc-set, take-set-lt, drop-set-lt}
 use Rattle.laws.specs.Lists.{highest}
 use Rattle.plain.specs.declared.Position.{Position}
 use Rattle.plain.specs.declared.Piece.{Piece}
-use Rattle.plain.specs.declared.Manner.the-variants.{Cash}
 use Rattle.plain.specs.Book.{noPosition}
 use Rattle.plain.specs.Charging.{payment, pricedAt}
 use Rattle.tables.specs.Tables.{Positions}
-use Rattle.pieces.specs.Sheet.{unpriced, withCents}
+use Rattle.pieces.specs.Sheet.{withCents}
 use Rattle.ledger.specs.Tabled.{Paired}
 use Rattle.ledger.specs.Settling.{paymentAt, OwedBy}
 use Rattle.ledger.proofs.Elements.{ahead-at, ahead-end, position-at}
@@ -68,9 +67,6 @@ module _ {A : Type 0} (f : A → ℕ) (n : ℕ) (items : List A) where
     highest-end done =
         let here : max m 0 ≡ highest (map f (take n items)) = rw (ahead-end n items i long done) at h in
         omega (arith, here)
-
-abbrev pub noPiece : Piece
-noPiece = unpriced Cash 0 0 0
 
 module _ (p : Positions) (payer price : ℕ) (x : Piece) (long : Position) (units : ℕ) (h : Paired (p .count) x) (o : OwedBy payer p x)
     (l : long ≡ getD (p .items) (x .long - 1) noPosition) (u : units ≡ x .quantity) where

@@ -1,9 +1,9 @@
 -- What posting asks of the tables that it reads, each of which every plain book has.
 use Prim.Native.Nat.{ℕ, _<_}
 use mathlib.Core.Path.{_≡_}
-use mathlib.Core.List.{[], _∷_, map}
+use mathlib.Core.List.{List, [], _∷_, map}
 use lib.ListN.{length}
-use Rattle.laws.specs.Limits.{ACCOUNTS, SECURITIES}
+use Rattle.laws.specs.Limits.{ACCOUNTS, SECURITIES, SHEET-CELLS}
 use Rattle.laws.specs.declared.BusinessDay.{BusinessDay}
 use Rattle.laws.specs.Lists.{All}
 use Rattle.register.specs.declared.Register.{Register}
@@ -15,10 +15,12 @@ use Rattle.plain.specs.Charging.{Charge, pricedAt}
 use Rattle.laws.specs.Asked.{Within}
 use Rattle.plain.specs.Invariants.{Rising}
 use Rattle.plain.specs.Sound.{Booked}
+use Rattle.pieces.specs.Sheet.{sheetWith}
 use Rattle.tables.specs.Tables as table
 use Rattle.tables.specs.Tables.{Positions, Awards, positions, pieces, awards, PositionsFit, PiecesFit, AwardsFit}
 use Rattle.tables.specs.declared.Prices.{Prices}
 use Rattle.tables.specs.declared.Pieces.{Pieces}
+use Rattle.tables.specs.Lent.{pieceTable}
 use Rattle.ledger.specs.Posts.{Room}
 use Rattle.ledger.specs.Parts.{awardFinesOf, lateFinesOf, closeChargesOf}
 
@@ -67,7 +69,7 @@ pub record Paired (held : ℕ) (x : Piece) : Type 0 where
   pub short : Within 1 held (x .short)
   pub long : Within 1 held (x .long)
 
--- what pricing pieces asks and gives; places past the count are free
+-- what pricing pieces asks and gives
 pub record Priceable (xs : Pieces) (p : Positions) : Type 0 where
   pub positions-fit : PositionsFit p
   pub pieces-fit : PiecesFit xs
@@ -77,3 +79,9 @@ pub record Priced (xs : Pieces) (price : ℕ) (r : Pieces) : Type 0 where
   pub many : r .count ≡ xs .count
   pub priced : pieces r ≡ map (pricedAt price) (pieces xs)
   pub fit : PiecesFit r
+
+-- what it leaves in the lent sheet: where pieces fill it, they fill it priced, and the later places are as they were
+pub record PricedOn (sheet : List ℕ) (dealt price : ℕ) (left : List ℕ) : Type 0 where
+  pub priced : Priced (pieceTable sheet dealt) price (pieceTable left dealt)
+  pub filled : (s : List ℕ) → sheet ≡ sheetWith (pieces (pieceTable sheet dealt)) s → left ≡ sheetWith (map (pricedAt price) (pieces (pieceTable sheet dealt))) s
+  pub sheet-length : length left ≡ SHEET-CELLS

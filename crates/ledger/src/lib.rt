@@ -8,11 +8,10 @@ ghost use lib.Dec.{eqb, ltb};
 ghost use lib.ListN.{length, getD};
 ghost use Rattle.laws.specs.Limits.{ACCOUNTS, SHEET-CELLS};
 ghost use Rattle.rules.specs.Charges.{buyInCharge};
-ghost use Rattle.plain.specs.declared.Manner.the-variants.{Cash};
 ghost use Rattle.plain.specs.Charging.{raise, posted, charge};
 ghost use Rattle.ledger.specs.Posts.{ledgerOf};
 ghost use Rattle.ledger.specs.Parts.{awardFinesOf, lateFinesOf, closeChargesOf};
-ghost use Rattle.ledger.specs.Tabled.{Chargeable, AwardsFinable, LateFinable, CloseFinable, Priceable, Priced};
+ghost use Rattle.ledger.specs.Tabled.{Chargeable, AwardsFinable, LateFinable, CloseFinable, Priceable, PricedOn};
 ghost use Rattle.tables.specs.Lent.{positionTable, awardTable, pieceTable};
 ghost use Rattle.ledger.specs.Settling.{highestLong, priceOf, paymentsAt, settlementOf, Settleable};
 use laws::ACCOUNTS;
@@ -183,8 +182,8 @@ fn highest_reference(
     sheet: &[u64; SHEET_CELLS],
     dealt: usize,
 ) -> u32
-    requires { ⌜ Priceable (pieceTable Cash (now sheet) dealt) (positionTable (now rows) held) ⌝ }
-    ensures { λ r. ⌜ r ≡ highestLong (positionTable (now (rows .entry)) held) (pieceTable Cash (now (sheet .entry)) dealt) ⌝ }
+    requires { ⌜ Priceable (pieceTable (now sheet) dealt) (positionTable (now rows) held) ⌝ }
+    ensures { λ r. ⌜ r ≡ highestLong (positionTable (now (rows .entry)) held) (pieceTable (now (sheet .entry)) dealt) ⌝ }
 {
     let mut highest: u32 = 0;
     let mut i: usize = 0;
@@ -212,8 +211,8 @@ fn post_payments(
     payer: u8,
     price: u64,
 )
-    requires { ⌜ (Settleable (ledgerOf (now credits) (now debits)) (paymentsAt price (positionTable (now rows) held) (pieceTable Cash (now sheet) dealt)) (positionTable (now rows) held) (pieceTable Cash (now sheet) dealt) payer) × (length (now sheet) ≡ SHEET-CELLS) ⌝ }
-    ensures { λ r. ⌜ (Priced (pieceTable Cash (now (sheet .entry)) dealt) price (pieceTable Cash (now (sheet .exit)) dealt)) × (ledgerOf (now (credits .exit)) (now (debits .exit)) ≡ posted (ledgerOf (now (credits .entry)) (now (debits .entry))) (paymentsAt price (positionTable (now (rows .entry)) held) (pieceTable Cash (now (sheet .entry)) dealt))) × (length (now (sheet .exit)) ≡ SHEET-CELLS) ⌝ }
+    requires { ⌜ (Settleable (ledgerOf (now credits) (now debits)) (paymentsAt price (positionTable (now rows) held) (pieceTable (now sheet) dealt)) (positionTable (now rows) held) (pieceTable (now sheet) dealt) payer) × (length (now sheet) ≡ SHEET-CELLS) ⌝ }
+    ensures { λ r. ⌜ (PricedOn (now (sheet .entry)) dealt price (now (sheet .exit))) × (ledgerOf (now (credits .exit)) (now (debits .exit)) ≡ posted (ledgerOf (now (credits .entry)) (now (debits .entry))) (paymentsAt price (positionTable (now (rows .entry)) held) (pieceTable (now (sheet .entry)) dealt))) ⌝ }
 {
     let mut i: usize = 0;
     while i < dealt {
@@ -241,8 +240,8 @@ pub fn post_cash(
     class: u8,
     latest: u32,
 )
-    requires { ⌜ (Settleable (ledgerOf (now credits) (now debits)) (settlementOf class latest short (positionTable (now rows) held) (pieceTable Cash (now sheet) dealt)) (positionTable (now rows) held) (pieceTable Cash (now sheet) dealt) (short .member)) × (length (now sheet) ≡ SHEET-CELLS) ⌝ }
-    ensures { λ r. ⌜ (Priced (pieceTable Cash (now (sheet .entry)) dealt) (priceOf class latest short (positionTable (now (rows .entry)) held) (pieceTable Cash (now (sheet .entry)) dealt)) (pieceTable Cash (now (sheet .exit)) dealt)) × (ledgerOf (now (credits .exit)) (now (debits .exit)) ≡ posted (ledgerOf (now (credits .entry)) (now (debits .entry))) (settlementOf class latest short (positionTable (now (rows .entry)) held) (pieceTable Cash (now (sheet .entry)) dealt))) × (length (now (sheet .exit)) ≡ SHEET-CELLS) ⌝ }
+    requires { ⌜ (Settleable (ledgerOf (now credits) (now debits)) (settlementOf class latest short (positionTable (now rows) held) (pieceTable (now sheet) dealt)) (positionTable (now rows) held) (pieceTable (now sheet) dealt) (short .member)) × (length (now sheet) ≡ SHEET-CELLS) ⌝ }
+    ensures { λ r. ⌜ (PricedOn (now (sheet .entry)) dealt (priceOf class latest short (positionTable (now (rows .entry)) held) (pieceTable (now (sheet .entry)) dealt)) (now (sheet .exit))) × (ledgerOf (now (credits .exit)) (now (debits .exit)) ≡ posted (ledgerOf (now (credits .entry)) (now (debits .entry))) (settlementOf class latest short (positionTable (now (rows .entry)) held) (pieceTable (now (sheet .entry)) dealt))) ⌝ }
 {
     let long = highest_reference(rows, held, sheet, dealt);
     let price = rules::cash_price(class, short.reference, long, latest);

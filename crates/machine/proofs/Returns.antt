@@ -8,12 +8,11 @@ use lib.ListN.{length, take}
 use Rattle.laws.specs.Limits.{SHEET-CELLS}
 use Rattle.laws.specs.Refusals.{accepted-zero, accepted-not}
 use Rattle.plain.specs.declared.Piece.{Piece}
-use Rattle.plain.specs.declared.Manner.{Manner}
 use Rattle.plain.specs.declared.Outcome.the-variants as outcome
 use Rattle.plain.specs.Calls.{Call, handsOut, amount, done}
 use Rattle.plain.specs.Refusals.{refusal}
 use Rattle.plain.specs.Histories.{eventOf, next, pieces, quantity}
-use Rattle.pieces.specs.Sheet.{piecesOf}
+use Rattle.pieces.specs.Sheet.{piecesOf, sheetWith}
 use Rattle.kept.specs.View.{view, Fits, answer}
 use Rattle.kept.proofs.Returns.{valid-done}
 use Rattle.machine.specs.declared.Core.{Core}
@@ -66,9 +65,10 @@ taken-called b a c after z q xs h e much given same fits lent =
 pub refused : (b : Core) (a : Numbers) (c : Call) (number : ℕ) → Held b a → refusal (bookOf b a) c ≡ number → number ≢ 0 → CalledBare b a c b a (outcome.Refused number) 0
 refused b a c number h e some = record { called = refused-called b a c number h e some; none = refl }
 
-pub refused-on : (b : Core) (a : Numbers) (c : Call) (m : Manner) (sheet : List ℕ) (number : ℕ) → Held b a → refusal (bookOf b a) c ≡ number → number ≢ 0 → length sheet ≡ SHEET-CELLS → CalledOn b a c m sheet b a sheet (outcome.Refused number) 0
-refused-on b a c m sheet number h e some long =
-    record { called = refused-called b a c number h e some; places = long; few = omega arith; kept = λ n. refl }
+pub refused-on : (b : Core) (a : Numbers) (c : Call) (sheet : List ℕ) (number : ℕ) → Held b a → refusal (bookOf b a) c ≡ number → number ≢ 0 → length sheet ≡ SHEET-CELLS → CalledOn b a c sheet b a sheet (outcome.Refused number) 0
+refused-on b a c sheet number h e some long =
+    let d = refused-called b a c number h e some in
+    record { called = d; filled = ap (λ (xs : List Piece). sheetWith xs sheet) (d .returned .pieces); places = long; few = omega arith }
 
 -- an accepted call that has no sheet
 pub taken : (b : Core) (a : Numbers) (c : Call) (after : Core) (z : Numbers) (q : ℕ) → Held b a → refusal (bookOf b a) c ≡ 0
@@ -76,14 +76,10 @@ pub taken : (b : Core) (a : Numbers) (c : Call) (after : Core) (z : Numbers) (q 
     → CalledBare b a c after z (outcome.Done q) 0
 taken b a c after z q h e much given same fits lent = record { called = taken-called b a c after z q [] h e much given same fits lent; none = refl }
 
--- and one on a sheet, with so many pieces
-pub taken-on : (b : Core) (a : Numbers) (c : Call) (m : Manner) (sheet : List ℕ) (after : Core) (z : Numbers) (left : List ℕ) (q made : ℕ) → Held b a → refusal (bookOf b a) c ≡ 0
-    → q ≡ amount (bookOf b a) (eventOf c) → take made (piecesOf m left) ≡ handsOut (bookOf b a) (eventOf c) → view (keptOf after z) ≡ done (bookOf b a) (eventOf c) → Fits (keptOf after z) → Lent after z
-    → length left ≡ SHEET-CELLS → made ≤ 1024 → CalledOn b a c m sheet after z left (outcome.Done q) made
-taken-on b a c m sheet after z left q made h e much given same fits lent long few =
-    record {
-      called = taken-called b a c after z q (take made (piecesOf m left)) h e much given same fits lent;
-      places = long;
-      few = few;
-      kept = λ n. absurd (n e);
-    }
+-- and one on a sheet, which its pieces fill
+pub taken-on : (b : Core) (a : Numbers) (c : Call) (sheet : List ℕ) (after : Core) (z : Numbers) (left : List ℕ) (q made : ℕ) → Held b a → refusal (bookOf b a) c ≡ 0
+    → q ≡ amount (bookOf b a) (eventOf c) → take made (piecesOf left) ≡ handsOut (bookOf b a) (eventOf c) → view (keptOf after z) ≡ done (bookOf b a) (eventOf c) → Fits (keptOf after z) → Lent after z
+    → left ≡ sheetWith (take made (piecesOf left)) sheet → length left ≡ SHEET-CELLS → made ≤ 1024 → CalledOn b a c sheet after z left (outcome.Done q) made
+taken-on b a c sheet after z left q made h e much given same fits lent filled long few =
+    let d = taken-called b a c after z q (take made (piecesOf left)) h e much given same fits lent in
+    record { called = d; filled = filled ∙ ap (λ (xs : List Piece). sheetWith xs sheet) (d .returned .pieces); places = long; few = few }

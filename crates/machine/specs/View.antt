@@ -19,7 +19,7 @@ use Rattle.plain.specs.Histories.{next, pieces, quantity}
 use Rattle.laws.specs.Asked.{Within}
 use Rattle.plain.specs.Invariants.{Deals}
 use Rattle.rows.specs.Rows.{rowsOf}
-use Rattle.pieces.specs.Sheet.{piecesOf}
+use Rattle.pieces.specs.Sheet.{piecesOf, sheetWith}
 use Rattle.tables.specs.Tables as table
 use Rattle.tables.specs.Lent.{positionTable, tradeTable, awardTable, pieceTable, rowOf}
 use Rattle.failing.specs.Counts.{Counted, LateBefore}
@@ -138,12 +138,13 @@ pub record CalledBare (b : Core) (a : Numbers) (c : Call) (after : Core) (z : Nu
   pub called : Called b a c after z o []
   pub none : n ≡ 0
 
--- a call that hands out n pieces in a manner on a lent sheet, of numbers too: a refused call leaves the sheet as it was
-pub record CalledOn (b : Core) (a : Numbers) (c : Call) (m : Manner) (sheet : List ℕ) (after : Core) (z : Numbers) (left : List ℕ) (o : Outcome) (n : ℕ) : Type 0 where
-  pub called : Called b a c after z o (take n (piecesOf m left))
+-- a call that hands out n pieces on a lent sheet, of numbers too, which it leaves as the plain book's pieces fill it, to its last number: a refused call, which
+-- hands out none, leaves it as it was
+pub record CalledOn (b : Core) (a : Numbers) (c : Call) (sheet : List ℕ) (after : Core) (z : Numbers) (left : List ℕ) (o : Outcome) (n : ℕ) : Type 0 where
+  pub called : Called b a c after z o (take n (piecesOf left))
+  pub filled : left ≡ sheetWith (pieces (bookOf b a) c) sheet
   pub places : length left ≡ SHEET-CELLS
   pub few : n ≤ PLACES
-  pub kept : refusal (bookOf b a) c ≢ 0 → left ≡ sheet
 
 -- what a discharge of q units of the short p, of number n, by these pieces asks of the lent positions and of what is followed of them
 pub record Falling (day : ℕ) (rows : List ℕ) (count : ℕ) (counts : List ℕ) (f : Followed) (n : ℕ) (p : Position) (q : ℕ) (m : Manner) (xs : List Piece) : Type 0 where
@@ -156,11 +157,12 @@ pub record Falling (day : ℕ) (rows : List ℕ) (count : ℕ) (counts : List �
   pub follows : Follows day rows count counts f
 
 -- and what it leaves of them, with so many pieces on the sheet
-pub record DischargedBy (day : ℕ) (rows : List ℕ) (count : ℕ) (xs : List Piece) (m : Manner) (after counts sheet : List ℕ) (f : Followed) (made : ℕ) : Type 0 where
-  pub dealt : HandedOut (positionTable rows count) xs (record { positions = positionTable after count; pieces = pieceTable m sheet made })
+pub record DischargedBy (day : ℕ) (rows sheet : List ℕ) (count : ℕ) (xs : List Piece) (after counts left : List ℕ) (f : Followed) (made : ℕ) : Type 0 where
+  pub dealt : HandedOut (positionTable rows count) xs (record { positions = positionTable after count; pieces = pieceTable left made })
+  pub filled : left ≡ sheetWith xs sheet
   pub follows : Follows day after count counts f
   pub rows-length : length after ≡ POSITION-CELLS
-  pub sheet-length : length sheet ≡ SHEET-CELLS
+  pub sheet-length : length left ≡ SHEET-CELLS
 
 -- the same of a discharge that is dealt out
 pub record Discharging (day : ℕ) (rows : List ℕ) (count : ℕ) (counts sheet : List ℕ) (f : Followed) (n : ℕ) (p : Position) (q : ℕ) (m : Manner) : Type 0 where
@@ -169,17 +171,17 @@ pub record Discharging (day : ℕ) (rows : List ℕ) (count : ℕ) (counts sheet
   pub rows-length : length rows ≡ POSITION-CELLS
   pub sheet-length : length sheet ≡ SHEET-CELLS
 
-abbrev pub Discharged : ℕ → List ℕ → ℕ → ℕ → ℕ → Manner → List ℕ → List ℕ → List ℕ → Followed → ℕ → Type 0
-Discharged day rows count n q m after counts sheet f made =
-    DischargedBy day rows count (dealtOut (positionTable rows count) day n q m) m after counts sheet f made
+abbrev pub Discharged : ℕ → List ℕ → List ℕ → ℕ → ℕ → ℕ → Manner → List ℕ → List ℕ → List ℕ → Followed → ℕ → Type 0
+Discharged day rows sheet count n q m after counts left f made =
+    DischargedBy day rows sheet count (dealtOut (positionTable rows count) day n q m) after counts left f made
 
 -- and of a pair-off, whose one piece is given
 pub record PairingOff (day : ℕ) (rows : List ℕ) (count : ℕ) (counts sheet : List ℕ) (f : Followed) (p : Position) (x : PairOff) : Type 0 where
   pub setting : SettingOff rows sheet (x .short) (x .long) (x .quantity)
   pub falling : Falling day rows count counts f (x .short) p (x .quantity) Paired (pairedPiece x ∷ [])
 
-abbrev pub PairedOff : ℕ → List ℕ → ℕ → PairOff → List ℕ → List ℕ → List ℕ → Followed → Type 0
-PairedOff day rows count x after counts sheet f = DischargedBy day rows count (pairedPiece x ∷ []) Paired after counts sheet f 1
+abbrev pub PairedOff : ℕ → List ℕ → List ℕ → ℕ → PairOff → List ℕ → List ℕ → List ℕ → Followed → Type 0
+PairedOff day rows sheet count x after counts left f = DischargedBy day rows sheet count (pairedPiece x ∷ []) after counts left f 1
 
 -- a call that nothing turns down
 pub record Taken (b : Core) (a : Numbers) (c : Call) : Type 0 where

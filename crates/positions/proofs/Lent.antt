@@ -4,7 +4,6 @@ use native.Mathlib.Nat.{zero-min}
 use native.Mathlib.Numerals.{add-one}
 use native.Mathlib.Omega.{arith}
 use mathlib.Core.Path.{_≡_, refl, ap, sym, _∙_}
-use mathlib.Core.Logic.{_≢_}
 use mathlib.Core.Bool.{Bool, true, false, true≢false}
 use lib.Dec.{eqb}
 use lib.Seq.{getD-set-same, getD-set-other}
@@ -21,8 +20,13 @@ use Rattle.plain.specs.declared.Piece.{Piece}
 use Rattle.plain.specs.declared.Manner.{Manner}
 use Rattle.plain.specs.Book.{noPosition}
 use Rattle.rows.specs.Rows.{rowsOf}
-use Rattle.tables.specs.Lent.{positionTable}
-use Rattle.positions.specs.Dealing.{loweredBy, shareOf, Dealing, DealtOut, ClosedBefore}
+use Rattle.pieces.specs.Sheet.{sheetWith}
+use Rattle.pieces.proofs.Filled.{Filled}
+use Rattle.tables.specs.Tables as tables
+use Rattle.tables.specs.Tables.{Positions}
+use Rattle.tables.specs.Lent.{positionTable, pieceTable}
+use Rattle.rows.specs.Lowering.{loweredBy}
+use Rattle.positions.specs.Dealing.{shareOf, Dealing, HandedOut, DealtOut, ClosedBefore}
 use Rattle.positions.proofs.Shares.{dueShare}
 use Rattle.positions.proofs.Walk.{State, Stands, Walk, Walked, walk-begin, walk-next, stepped-none}
 use Rattle.positions.proofs.Table.{own-is, start-stands, walked-deals}
@@ -45,20 +49,24 @@ module _ (manner : Manner) (short day security count : ℕ) (items : List Positi
       (stepped-none manner short day security (standing n) (standing (suc n)) (h n (omega arith)) refl (sym (add-one n)) refl refl refl)
 
 module _ (cells : List ℕ) (count day short quantity : ℕ) (h : Dealing (positionTable cells count) day short quantity) (manner : Manner)
-    (own x : Position) (r : own ≡ getD (rowsOf cells) (short - 1) noPosition) (low : x ≡ loweredBy manner quantity own)
-    (first : List ℕ) (put : rowsOf first ≡ set (rowsOf cells) (short - 1) x) (none : List Piece) (e : length none ≡ 1024) where
+    (own : Position) (r : own ≡ getD (rowsOf cells) (short - 1) noPosition) (first : List ℕ) (put : rowsOf first ≡ set (rowsOf cells) (short - 1) (loweredBy manner quantity (getD (rowsOf cells) (short - 1) noPosition)))
+    (none : List Piece) (e : length none ≡ 1024) where
+  -- the short, once it has fallen
+  abbrev x : Position
+  x = loweredBy manner quantity (getD (rowsOf cells) (short - 1) noPosition)
+
   abbrev begun : State
   begun = record { items = rowsOf first; shares = none; dealt = 0; left = quantity; place = 0 }
 
   pub begins : Stands count begun
-  begins = rw put (start-stands (positionTable cells count) day short quantity h manner x (low ∙ ap (loweredBy manner quantity) r) none e)
+  begins = rw put (start-stands (positionTable cells count) day short quantity h manner x refl none e)
 
   pub ends : (last : List ℕ) (shares : List Piece) (dealt left place : ℕ)
       → Stands count (record { items = rowsOf last; shares = shares; dealt = dealt; left = left; place = place })
       → Walked manner short day (own .security) count begun (record { items = rowsOf last; shares = shares; dealt = dealt; left = left; place = place })
       → DealtOut (positionTable cells count) day short quantity manner (record { positions = positionTable last count; pieces = record { items = shares; count = dealt } })
   ends last shares dealt left place s w =
-      walked-deals (positionTable cells count) day short quantity h manner x (low ∙ ap (loweredBy manner quantity) r) none e
+      walked-deals (positionTable cells count) day short quantity h manner x refl none e
       (record { items = rowsOf last; shares = shares; dealt = dealt; left = left; place = place }) s (rw (put, r) at w)
 
   -- the walk may as well begin at a place before which no long of the security is open
@@ -66,12 +74,12 @@ module _ (cells : List ℕ) (count day short quantity : ℕ) (h : Dealing (posit
     at-short : getD (rowsOf first) (short - 1) noPosition ≡ x
     at-short = rw put (getD-set-same (rowsOf cells) (short - 1) x noPosition (omega (arith, h .fits .places, h .fits .held, h .held .above, h .held .below)))
 
-    own-short : own .short ≡ true
-    own-short = ap (λ (p : Position). p .short) (r ∙ sym (own-is (positionTable cells count) day short quantity h)) ∙ h .is-short
+    own-short : getD (rowsOf cells) (short - 1) noPosition .short ≡ true
+    own-short = ap (λ (p : Position). p .short) (sym (own-is (positionTable cells count) day short quantity h)) ∙ h .is-short
 
     no-long : longOf (own .security) x ≡ false
     unfolding longOf loweredBy
-    no-long = rw (low, own-short)
+    no-long = rw own-short
 
     idle : (j : ℕ) → j < start → Said (eqb j (short - 1)) → dueShare day (own .security) quantity (getD (rowsOf first) j noPosition) ≡ 0
     unfolding ClosedBefore
@@ -144,13 +152,18 @@ module _ (security left : ℕ) (items : List Position) (i : ℕ) where
           rw other (c j (omega (arith, k, eqb-false j i e)) (rw other at t))
 
   -- the same of a list that is known to be the one that the step makes
-  pub closed-taken : (manner : Manner) (units : ℕ) (x : Position) (next : List Position)
-      → next ≡ set items i x → x ≡ loweredBy manner units here → units ≡ shareOf security left here → units < left → i < length items
+  pub closed-taken : (manner : Manner) (units : ℕ) (next : List Position)
+      → next ≡ set items i (loweredBy manner units here) → units ≡ shareOf security left here → units < left → i < length items
       → ClosedBefore security items i → ClosedBefore security next (i + 1)
-  closed-taken manner units x next e low u l inside c = rw (e, low) (closed-some manner units u l inside c)
+  closed-taken manner units next e u l inside c = rw e (closed-some manner units u l inside c)
 
   pub closed-passed : (units : ℕ) (next : List Position) → next ≡ items → units ≡ shareOf security left here → units ≡ 0 → 0 < left → ClosedBefore security items i → ClosedBefore security next (i + 1)
   closed-passed units next e u z l c = rw e (closed-none l (sym u ∙ z) c)
 
   pub closed-changed : (own mine : Position) (x : Position) (next : List Position) → own ≡ mine → next ≡ set items i x → own .security ≡ security → ClosedBefore security items i → ClosedBefore (mine .security) next i
   closed-changed own mine x next o e s c = rw (e, sym o, s) (closed-set x c)
+
+-- pieces that are handed out in a sheet's first places, whose numbers these are, fill it
+pub handed-fill : (table after : Positions) (xs : List Piece) (left s : List ℕ) (n : ℕ) → HandedOut table xs (record { positions = after; pieces = pieceTable left n }) → Filled n left s → left ≡ sheetWith xs s
+unfolding tables.pieces
+handed-fill table after xs left s n h f = f ∙ ap (λ (ys : List Piece). sheetWith ys s) (h .pieces)

@@ -23,7 +23,8 @@ use Rattle.plain.specs.Dealing.{mannerNumber, longOf, Taker, dealTo, names, tak
 use Rattle.plain.specs.Invariants.{Rising, dueLong, openOf, asLong}
 use Rattle.plain.proofs.Order.{longsFrom}
 use Rattle.plain.proofs.Discharged.{length-lowering, lowering-at}
-use Rattle.positions.specs.Dealing.{inManner, loweredBy, pieceOf, Sized, Lowerable}
+use Rattle.rows.specs.Lowering.{inManner, loweredBy, Sized, Lowerable}
+use Rattle.positions.specs.Dealing.{pieceOf}
 use Rattle.positions.proofs.Shares.{dueShare, lowered-none, after, handed, handed-cons}
 use Rattle.plain.proofs.Numbered.{nth-at}
 

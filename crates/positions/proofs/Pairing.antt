@@ -9,6 +9,7 @@ use lib.ListN.{length, getD, set, take, length-set}
 use lib.Seq.{getD-set-same, getD-set-other, ext-getD, take-suc-set}
 use lib.Dec.{eqb}
 use borrow.Author.Tests.{eq-eqb, ne-eqb, eqb-true, eqb-false}
+use Rattle.laws.specs.Limits.{SHEET-CELLS}
 use Rattle.laws.specs.Lists.{only, number}
 use Rattle.laws.specs.Asked.{Said, passed, failed, ask, Within}
 use Rattle.plain.specs.declared.Position.{Position}
@@ -20,11 +21,13 @@ use Rattle.plain.specs.Dealing.{names, taken, lowered, lowering}
 use Rattle.plain.proofs.Discharged.{length-lowering, lowering-at}
 use Rattle.rows.specs.Rows.{rowsOf}
 use Rattle.rows.proofs.Cells.{length-rows}
-use Rattle.pieces.specs.Sheet.{piecesOf}
+use Rattle.pieces.specs.Sheet.{piecesOf, sheetWith, PutPiece}
 use Rattle.pieces.proofs.Cells.{length-pieces}
+use Rattle.pieces.proofs.Filled.{piece-added}
 use Rattle.tables.specs.Tables as tables
 use Rattle.tables.specs.Lent.{positionTable, pieceTable}
-use Rattle.positions.specs.Dealing.{loweredBy, pieceOf, HandedOut}
+use Rattle.rows.specs.Lowering.{loweredBy}
+use Rattle.positions.specs.Dealing.{pieceOf, HandedOut}
 use Rattle.positions.specs.Pairing.{SetOff}
 use Rattle.positions.proofs.Shares.{lowered-none}
 use Rattle.positions.proofs.Lowered.{Own, lowered-own}
@@ -81,19 +84,22 @@ module _ (rows mid : List ℕ) (short long : ℕ) (here : Within 1 1024 short) (
       ap (λ (l : List Position). getD l (long - 1) noPosition) put
       ∙ getD-set-other (rowsOf rows) (short - 1) (long - 1) x noPosition (λ e. apart (omega (arith, e, here .above, there .above)))
 
-  pub rows-fallen : (after : List ℕ) (q : ℕ) (own other y : Position) → own ≡ getD (rowsOf rows) (short - 1) noPosition → x ≡ loweredBy Paired q own
-      → other ≡ getD (rowsOf mid) (long - 1) noPosition → y ≡ loweredBy Paired q other → rowsOf after ≡ set (rowsOf mid) (long - 1) y
+  pub rows-fallen : (after : List ℕ) (q : ℕ) → x ≡ loweredBy Paired q (getD (rowsOf rows) (short - 1) noPosition)
+      → rowsOf after ≡ set (rowsOf mid) (long - 1) (loweredBy Paired q (getD (rowsOf mid) (long - 1) noPosition))
       → rowsOf after ≡ lowering (pieceOf Paired short long q ∷ []) (rowsOf rows)
-  rows-fallen after q own other y first low second low' put' =
-      let second' : other ≡ getD (rowsOf rows) (long - 1) noPosition = second ∙ other-kept in
+  rows-fallen after q low put' =
       let many = length-rows rows in
       put'
-      ∙ rw (put, low, low', first, second')
+      ∙ rw (other-kept, put, low)
       (both-fallen Paired (rowsOf rows) short long q (record { above = here .above; below = omega (arith, here .below, many) }) (record { above = there .above; below = omega (arith, there .below, many) }) apart)
 
 -- the first piece of a sheet
-pub piece-first : (sheet left : List ℕ) (x : Piece) → piecesOf Paired left ≡ set (piecesOf Paired sheet) 0 x → take 1 (piecesOf Paired left) ≡ x ∷ []
-piece-first sheet left x put = rw put (take-suc-set (piecesOf Paired sheet) 0 x (omega (arith, length-pieces Paired sheet)))
+pub piece-first : (sheet left : List ℕ) (x : Piece) → PutPiece sheet 0 x left → take 1 (piecesOf left) ≡ x ∷ []
+piece-first sheet left x put = rw (put .pieces) (take-suc-set (piecesOf sheet) 0 x (omega (arith, length-pieces sheet)))
+
+-- no other place of the sheet changes
+pub piece-alone : (sheet left : List ℕ) (x : Piece) → length sheet ≡ SHEET-CELLS → PutPiece sheet 0 x left → left ≡ sheetWith (x ∷ []) sheet
+piece-alone sheet left x long put = put .cells ∙ piece-added [] sheet x (omega (arith, long))
 
 -- the positions in use fall as the whole table does
 take-number : (f : ℕ → Position → Position) (count n : ℕ) (ps : List Position) → take count (number f n ps) ≡ number f n (take count ps)
@@ -102,14 +108,14 @@ take-number f (suc count) n [] = refl
 take-number f (suc count) n (p ∷ ps) = ap (λ (l : List Position). f n p ∷ l) (take-number f count (suc n) ps)
 
 -- so that a discharge by the one piece is handed out
-pub set-off-out : (rows : List ℕ) (count short long q : ℕ) (after sheet : List ℕ) → count ≤ 1024 → SetOff rows short long q after sheet
-    → HandedOut (positionTable rows count) (pieceOf Paired short long q ∷ []) (record { positions = positionTable after count; pieces = pieceTable Paired sheet 1 })
+pub set-off-out : (rows sheet : List ℕ) (count short long q : ℕ) (after left : List ℕ) → count ≤ 1024 → SetOff rows sheet short long q after left
+    → HandedOut (positionTable rows count) (pieceOf Paired short long q ∷ []) (record { positions = positionTable after count; pieces = pieceTable left 1 })
 unfolding tables.positions tables.pieces lowering
-set-off-out rows count short long q after sheet few s =
+set-off-out rows sheet count short long q after left few s =
     record {
       pieces = s .piece;
       positions = ap (take count) (s .fallen) ∙ take-number (lowered (pieceOf Paired short long q ∷ [])) count 1 (rowsOf rows);
-      pieces-fit = record { places = length-pieces Paired sheet; held = omega arith };
+      pieces-fit = record { places = length-pieces left; held = omega arith };
       positions-fit = record { places = length-rows after; held = few };
       count = refl;
     }

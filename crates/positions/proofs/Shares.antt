@@ -21,7 +21,8 @@ use Rattle.plain.specs.Book.{noPosition}
 use Rattle.plain.specs.Dealing.{due, longOf, share, dealTo}
 use Rattle.plain.specs.Invariants.{Rising, dueLong}
 use Rattle.plain.proofs.Order.{longsFrom}
-use Rattle.positions.specs.Dealing.{shareOf, loweredBy, pieceOf}
+use Rattle.rows.specs.Lowering.{loweredBy}
+use Rattle.positions.specs.Dealing.{shareOf, pieceOf}
 
 -- what a position takes of what is left: as a due long of the security its share, else nothing
 unfoldable pub dueShare : ℕ → ℕ → ℕ → Position → ℕ

@@ -17,7 +17,8 @@ use Rattle.plain.specs.Invariants.{Whole}
 use Rattle.plain.proofs.Order.{takers-in-order}
 use Rattle.tables.specs.Tables.{Positions}
 use Rattle.tables.specs.Tables as tables
-use Rattle.positions.specs.Dealing.{positionOf, loweredBy, Sized, Lowerable, Dealing, dealtOut, DealtOut}
+use Rattle.rows.specs.Lowering.{loweredBy, Sized, Lowerable}
+use Rattle.positions.specs.Dealing.{positionOf, Dealing, dealtOut, DealtOut}
 use Rattle.positions.proofs.Shares.{handed}
 use Rattle.positions.proofs.Lowered.{rising-set, lowered-sized, same-pieces, same-positions}
 use Rattle.positions.proofs.Walk.{State, Stands, Walked, held}

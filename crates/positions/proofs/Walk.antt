@@ -16,7 +16,8 @@ use Rattle.plain.specs.declared.Piece.{Piece}
 use Rattle.plain.specs.declared.Manner.{Manner}
 use Rattle.plain.specs.Book.{noPosition}
 use Rattle.plain.specs.Invariants.{Rising}
-use Rattle.positions.specs.Dealing.{loweredBy, pieceOf, Sized}
+use Rattle.rows.specs.Lowering.{loweredBy, Sized}
+use Rattle.positions.specs.Dealing.{pieceOf}
 use Rattle.positions.proofs.Shares.{dueShare, due-share-of-none, lowered-none, after-idle, handed-idle, finalPositions, finalPieces, final-positions-next, final-pieces-next, late-all}
 
 -- what the walk changes: the places of the table, the pieces with their count, what is left, and the place that it stands at
@@ -111,14 +112,14 @@ module _ (manner : Manner) (short day security : ℕ) where
         sheet = ap length q;
       }
 
-  pub stepped-some : (s t : State) (k : ℕ) (x : Position) (y : Piece) → units s ≡ k → 0 < k → x ≡ loweredBy manner k (here s) → y ≡ pieceOf manner short (s .place + 1) k → s .dealt < length (s .shares)
-      → t .left ≡ s .left - k → t .place ≡ s .place + 1 → t .items ≡ set (s .items) (s .place) x → t .shares ≡ set (s .shares) (s .dealt) y → t .dealt ≡ s .dealt + 1
+  pub stepped-some : (s t : State) (k : ℕ) (y : Piece) → units s ≡ k → 0 < k → y ≡ pieceOf manner short (s .place + 1) k → s .dealt < length (s .shares)
+      → t .left ≡ s .left - k → t .place ≡ s .place + 1 → t .items ≡ set (s .items) (s .place) (loweredBy manner k (here s)) → t .shares ≡ set (s .shares) (s .dealt) y → t .dealt ≡ s .dealt + 1
       → Stepped s t
-  stepped-some s t k x y e some low piece room l i p q n =
+  stepped-some s t k y e some piece room l i p q n =
       record {
         left = rw e l;
         place = i;
-        items = rw (e, ← low) p;
+        items = rw e p;
         pieces = rw (q, n, piece, e, lt-ltb 0 k some, add-one (s .dealt), take-suc-set, add-one (s .place));
         few = omega (arith, n);
         sheet = ap length q ∙ simp length-set;

@@ -1,23 +1,23 @@
 -- Document 01, 'Discharge and pieces': a discharge of a short, dealt out over the machine's table of positions.
-use Prim.Native.Nat.{ℕ, _+_, _-_, _≤_, _<_, min}
+use Prim.Native.Nat.{ℕ, _≤_, _<_, min}
 use lib.ListN.{length, getD}
 use mathlib.Core.Path.{_≡_}
 use mathlib.Core.List.{List}
 use mathlib.Core.Bool.{true}
-use lib.Dec.{eqb}
 use Rattle.laws.specs.Limits.{MOST-NETTED, POSITION-CELLS, SHEET-CELLS}
 use Rattle.laws.specs.Lists.{All, only}
 use Rattle.plain.specs.declared.Position.{Position}
 use Rattle.plain.specs.declared.Piece.{Piece}
 use Rattle.plain.specs.declared.Manner.{Manner}
 use Rattle.plain.specs.Book.{noPosition, nth}
-use Rattle.plain.specs.Dealing.{mannerNumber, figure, withFigures, due, longOf, takers, dealTo, lowering}
+use Rattle.plain.specs.Dealing.{due, longOf, takers, dealTo, lowering}
 use Rattle.laws.specs.Asked.{Within}
 use Rattle.plain.specs.Invariants.{Rising, Whole, dueLong, openOf}
 use Rattle.tables.specs.Tables.{Positions}
 use Rattle.tables.specs.Tables as tables
 use Rattle.tables.specs.Lent.{positionTable, pieceTable, rowOf}
 use Rattle.rows.specs.Rows.{rowsOf}
+use Rattle.pieces.specs.Sheet.{sheetWith}
 use Rattle.tables.specs.declared.Pieces.{Pieces}
 
 -- position n of the table
@@ -28,27 +28,9 @@ positionOf table n = nth noPosition (tables.positions table) n
 unfoldable pub shareOf : ℕ → ℕ → Position → ℕ
 shareOf security left p = only (longOf security p) (min (p .unsettled) left)
 
--- the units, where they are discharged in the manner that the figure is kept for
-abbrev pub inManner : Manner → Manner → ℕ → ℕ
-inManner manner figure units = only (eqb (mannerNumber manner) (mannerNumber figure)) units
-
--- a position of which units are discharged in a manner: its open quantity falls, and the figure of that manner rises
-unfoldable pub loweredBy : Manner → ℕ → Position → Position
-loweredBy manner units p = withFigures p (λ m. figure m p + inManner manner m units) (p .unsettled - units)
-
 -- a piece that is dealt: pieces are priced later
 abbrev pub pieceOf : Manner → ℕ → ℕ → ℕ → Piece
 pieceOf manner short long units = record { short = short; long = long; quantity = units; manner = manner; cents = 0 }
-
--- figures that add up to a netted quantity of at most 512 trades of at most 1,000,000 units
-pub record Sized (p : Position) : Type 0 where
-  pub whole : Whole p
-  pub bounded : p .netted ≤ MOST-NETTED
-
--- units that may be discharged of a position
-pub record Lowerable (p : Position) (units : ℕ) : Type 0 where
-  pub enough : units ≤ p .unsettled
-  pub sized : Sized p
 
 -- "A discharge of q units of a due short", and the longs suffice
 pub record Dealing (table : Positions) (day short quantity : ℕ) : Type 0 where
@@ -98,9 +80,10 @@ pub record Walkable (rows sheet : List ℕ) (count day short quantity start : �
   pub closed : ClosedBefore (rowOf rows short .security) (rowsOf rows) start
 
 -- what it leaves in them, the number of pieces, and the place where it ended
-pub record Walked (rows : List ℕ) (count day short quantity : ℕ) (manner : Manner) (after sheet : List ℕ) (pieces end : ℕ) : Type 0 where
-  pub dealt : DealtOut (positionTable rows count) day short quantity manner (record { positions = positionTable after count; pieces = pieceTable manner sheet pieces })
+pub record Walked (rows sheet : List ℕ) (count day short quantity : ℕ) (manner : Manner) (after left : List ℕ) (pieces end : ℕ) : Type 0 where
+  pub dealt : DealtOut (positionTable rows count) day short quantity manner (record { positions = positionTable after count; pieces = pieceTable left pieces })
+  pub filled : left ≡ sheetWith (dealtOut (positionTable rows count) day short quantity manner) sheet
   pub rows-length : length after ≡ POSITION-CELLS
-  pub sheet-length : length sheet ≡ SHEET-CELLS
+  pub sheet-length : length left ≡ SHEET-CELLS
   pub within : end ≤ count
   pub closed : ClosedBefore (rowOf rows short .security) (rowsOf after) end

@@ -32,29 +32,6 @@ fn share_of(p: Position, security: u16, left: u32) -> u32
     }
 }
 
-fn lowered_by(p: Position, manner: Manner, units: u32) -> Position
-    requires { ⌜ spec.Lowerable p units ⌝ }
-    ensures { λ r. ⌜ r ≡ spec.loweredBy manner units p ⌝ }
-{
-    let mut after = p;
-    after.unsettled = p.unsettled - units;
-    match manner {
-        Manner::Delivered => {
-            after.delivered = p.delivered + units;
-        }
-        Manner::BoughtIn => {
-            after.bought = p.bought + units;
-        }
-        Manner::Cash => {
-            after.cash = p.cash + units;
-        }
-        Manner::Paired => {
-            after.paired = p.paired + units;
-        }
-    }
-    after
-}
-
 // The table is in order of rising delivery days, so the walk steps along it from day to day, and within a day from
 // position to position; it is left as soon as the quantity is dealt out. It starts where the first open long may be. The table is lent, and changed where it stands.
 pub fn deal(
@@ -68,11 +45,11 @@ pub fn deal(
     start: usize,
 ) -> Left
     requires { ⌜ spec.Walkable (now rows) (now sheet) count (day .0) short quantity start ⌝ }
-    ensures { λ r. ⌜ spec.Walked (now (rows .entry)) count (day .0) short quantity manner (now (rows .exit)) (now (sheet .exit)) (r .pieces) (r .end) ⌝ }
+    ensures { λ r. ⌜ spec.Walked (now (rows .entry)) (now (sheet .entry)) count (day .0) short quantity manner (now (rows .exit)) (now (sheet .exit)) (r .pieces) (r .end) ⌝ }
 {
     let place = (short - 1) as usize;
     let own = rows::row_at(rows, place);
-    rows::put_row(rows, place, lowered_by(own, manner, quantity));
+    rows::lower(rows, place, manner, quantity);
     let mut dealt: usize = 0;
     let mut left = quantity;
     let mut i = start;
@@ -85,9 +62,9 @@ pub fn deal(
             let long = rows::row_at(rows, i);
             let units = share_of(long, own.security, left);
             if 0 < units {
-                pieces::put_piece(sheet, dealt, short, (i + 1) as u16, units);
+                pieces::put_piece(sheet, dealt, short, (i + 1) as u16, units, manner);
                 dealt += 1;
-                rows::put_row(rows, i, lowered_by(long, manner, units));
+                rows::lower(rows, i, manner, units);
                 left -= units;
                 if left == 0 {
                     break 'deal;
@@ -112,17 +89,11 @@ pub fn set_off(
     quantity: u32,
 )
     requires { ⌜ SettingOff (now rows) (now sheet) short long quantity ⌝ }
-    ensures { λ _. ⌜ SetOff (now (rows .entry)) short long quantity (now (rows .exit)) (now (sheet .exit)) ⌝ }
+    ensures { λ _. ⌜ SetOff (now (rows .entry)) (now (sheet .entry)) short long quantity (now (rows .exit)) (now (sheet .exit)) ⌝ }
 {
     let short_place = (short - 1) as usize;
-    let own = rows::row_at(rows, short_place);
-    rows::put_row(rows, short_place, lowered_by(own, Manner::Paired, quantity));
+    rows::lower(rows, short_place, Manner::Paired, quantity);
     let long_place = (long - 1) as usize;
-    let other = rows::row_at(rows, long_place);
-    rows::put_row(
-        rows,
-        long_place,
-        lowered_by(other, Manner::Paired, quantity),
-    );
-    pieces::put_piece(sheet, 0, short, long, quantity);
+    rows::lower(rows, long_place, Manner::Paired, quantity);
+    pieces::put_piece(sheet, 0, short, long, quantity, Manner::Paired);
 }

@@ -2,29 +2,26 @@
 use Prim.Native.Nat.{ℕ, _+_, _-_, _*_, _≤_, _<_, min}
 use native.Mathlib.Omega.{arith}
 use mathlib.Core.Path.{_≡_, ap, sym, _∙_}
-use mathlib.Core.List.{List, [], map}
+use mathlib.Core.List.{List, []}
 use lib.ListN.{length, take, drop}
 use borrow.Author.Tests.{lt-ltb, le-ltb}
 use Rattle.laws.specs.Refusals.{accepted-zero, accepted-not}
 use Rattle.events.specs.declared.Event.{Event}
 use Rattle.files.specs.File.{eventsOf}
 use Rattle.plain.specs.declared.Piece.{Piece}
-use Rattle.plain.specs.declared.Manner.{Manner}
-use Rattle.plain.specs.declared.Manner.the-variants.{Delivered}
 use Rattle.plain.specs.declared.Outcome.{Outcome}
 use Rattle.plain.specs.Book as plain
 use Rattle.plain.specs.Calls.{call}
 use Rattle.plain.specs.Refusals.{refusal}
 use Rattle.plain.specs.Histories.{quantity}
-use Rattle.pieces.specs.Sheet.{piecesOf, inManner}
+use Rattle.pieces.specs.Sheet.{piecesOf}
 use Rattle.kept.specs.View.{numberOf, quantityOf}
 use Rattle.machine.specs.Answers.{answered-number, answered-quantity}
 use Rattle.book.specs.declared.Book.{Book}
 use Rattle.book.specs.View.{view}
 use Rattle.sheet.specs.Lent.{ReturnedOn}
-use Rattle.report.specs.Lines.{LINE, pieceLines, eventLines, lines-of-any-manner}
+use Rattle.report.specs.Lines.{LINE, eventLines}
 use Rattle.report.specs.Pages.{Wrote, wrote-put, put-wrote, wrote-text, empty-wrote, put-text}
-use Rattle.report.proofs.Blocks.{take-map}
 use Rattle.transcript.specs.declared.Started.{Started}
 use Rattle.transcript.specs.Transcript.{inputRefusal, opened, eventText}
 use Rattle.transcript.specs.Playing.{StartedOn, BLOCK}
@@ -42,17 +39,15 @@ module _ (b : plain.Book) (events : List Event) (entry : List ℕ) where
   pub last-shown : (before after : Book) (e : Event) (number : ℕ) (ys zs : List Piece) (xs : List ℕ) (o : Outcome) (n : ℕ) (exit : List ℕ) (used : ℕ)
       → 0 < length events → BLOCK ≤ length entry → length ys ≡ 1024
       → view before ≡ beforeLast b events → e ≡ lastEvent events → number ≡ length events → ReturnedOn before e ys zs after o n
-      → ((m : Manner) → piecesOf m xs ≡ map (inManner m) zs)
-      → ((m : Manner) → Wrote (LINE * (1 + min n 1024)) (eventLines number (numberOf o) (quantityOf o) (take n (piecesOf m xs))) entry exit used)
+      → piecesOf xs ≡ zs
+      → Wrote (LINE * (1 + min n 1024)) (eventLines number (numberOf o) (quantityOf o) (take n (piecesOf xs))) entry exit used
       → Wrote BLOCK (lastText b events) entry exit used
   unfolding lastText eventText eventLines
-  last-shown before after e number ys zs xs o n exit used some room long book is numbered on turned writes =
+  last-shown before after e number ys zs xs o n exit used some room long book is numbered on turned w =
       let r = on .returned in
-      let w = writes Delivered in
       let put = wrote-put _ _ entry exit used (omega (arith, room)) w in
-      let lines : pieceLines (take n (piecesOf Delivered xs)) ≡ pieceLines (take n zs) = rw (turned Delivered, take-map (inManner Delivered) n zs) (lines-of-any-manner Delivered (take n zs)) in
-      let text : eventLines number (numberOf o) (quantityOf o) (take n (piecesOf Delivered xs)) ≡ lastText b events =
-      rw (lt-ltb 0 (length events) some, lines, ← book, ← is, ← numbered, answered-number o (refusal (view before) (call e (length ys))) (quantity (view before) (call e (length ys))) (r .outcome), answered-quantity (view before) (call e (length ys)) o (r .outcome), r .pieces, long) in
+      let text : eventLines number (numberOf o) (quantityOf o) (take n (piecesOf xs)) ≡ lastText b events =
+      rw (lt-ltb 0 (length events) some, turned, ← book, ← is, ← numbered, answered-number o (refusal (view before) (call e (length ys))) (quantity (view before) (call e (length ys))) (r .outcome), answered-quantity (view before) (call e (length ys)) o (r .outcome), r .pieces, long) in
       put-wrote BLOCK _ entry exit used room (omega (arith, put .bytes, ap length text, w .most)) (put-text _ _ entry exit used text put)
 
 -- the last event of an input

@@ -8,13 +8,25 @@ use lib.Seq.{take-suc}
 use Rattle.events.specs.declared.Event.{Event}
 use Rattle.plain.specs.declared.Outcome.{Outcome}
 use Rattle.plain.specs.Calls.{Call, call}
-use Rattle.plain.specs.Histories.{callsOf, run}
+use Rattle.plain.specs.Book as plain
+use Rattle.plain.specs.Histories.{callsOf, next, pieces, run}
+use Rattle.pieces.specs.Sheet.{sheetWith}
 use Rattle.machine.specs.declared.Core.{Core}
 use Rattle.machine.specs.View.{Numbers, Held}
 use Rattle.calls.specs.Stepping.{Stepped}
 use Rattle.history.specs.Runs.{RunsTo, onNumbers}
 use Rattle.history.proofs.Playing.{runs-none, runs-one, runs-then, runs-book}
-use Rattle.replay.specs.Replay.{PlayedUpTo}
+use Rattle.replay.specs.Replay.{PlayedUpTo, sheetAfter}
+
+sheet-after-one : (cs : List Call) (b : plain.Book) (c : Call) (sheet : List ℕ) → sheetAfter b (cs ++ c ∷ []) sheet ≡ sheetWith (pieces (run b cs) c) (sheetAfter b cs sheet)
+unfolding sheetAfter run
+sheet-after-one [] b c sheet = refl
+sheet-after-one (d ∷ cs) b c sheet = sheet-after-one cs (next b d) c (sheetWith (pieces b d) sheet)
+
+-- no call leaves the sheet as it is
+pub none-filled : (b : plain.Book) (sheet : List ℕ) → sheet ≡ sheetAfter b [] sheet
+unfolding sheetAfter
+none-filled b sheet = refl
 
 pub none-played : (b : Core) (a : Numbers) → Held b a → PlayedUpTo b a [] b a
 unfolding run
@@ -36,9 +48,21 @@ pub one-played : (b : Core) (a : Numbers) (e : Event) (sheet : List ℕ) (after 
 one-played b a e sheet after z left o n d =
     made b a (e ∷ []) after z (record { valid = d .called .returned .valid; lent = d .called .lent }) (runs-one (onNumbers d))
 
+-- the sheet after one more call
+pub more-filled : (b w : plain.Book) (xs : List Event) (e : Event) (entry sheet left : List ℕ) → w ≡ run b (callsOf xs) → sheet ≡ sheetAfter b (callsOf xs) entry → left ≡ sheetWith (pieces w (call e 1024)) sheet
+    → left ≡ sheetAfter b (callsOf (xs ++ e ∷ [])) entry
+more-filled b w xs e entry sheet left book before one =
+    one
+    ∙ ap (λ (v : plain.Book). sheetWith (pieces v (call e 1024)) sheet) book
+    ∙ ap (λ (s : List ℕ). sheetWith (pieces (run b (callsOf xs)) (call e 1024)) s) before
+    ∙ sym (ap (λ (cs : List Call). sheetAfter b cs entry) (calls-append xs (e ∷ [])) ∙ sheet-after-one (callsOf xs) b (call e 1024) entry)
+
 -- one more of a list of events
+pub event-more : (events : List Event) (i : ℕ) (none e : Event) → i < length events → e ≡ getD events i none → take (i + 1) events ≡ take i events ++ e ∷ []
+event-more events i none e inside is =
+    ap (λ (k : ℕ). take k events) (add-one i) ∙ take-suc events i none inside ∙ ap (λ (x : Event). take i events ++ x ∷ []) (sym is)
+
 pub more-played : (b : Core) (a : Numbers) (events : List Event) (i : ℕ) (none e : Event) (c : Core) (y : Numbers) (sheet : List ℕ) (after : Core) (z : Numbers) (left : List ℕ) (o : Outcome) (n : ℕ)
     → i < length events → e ≡ getD events i none → PlayedUpTo b a (take i events) c y → Stepped c y e sheet after z left o n → PlayedUpTo b a (take (i + 1) events) after z
 more-played b a events i none e c y sheet after z left o n inside is p d =
-    let all : take (i + 1) events ≡ take i events ++ e ∷ [] = ap (λ (k : ℕ). take k events) (add-one i) ∙ take-suc events i none inside ∙ ap (λ (x : Event). take i events ++ x ∷ []) (sym is) in
-    rw all (then-played b a (take i events) (e ∷ []) c after y z p (one-played c y e sheet after z left o n d))
+    rw (event-more events i none e inside is) (then-played b a (take i events) (e ∷ []) c after y z p (one-played c y e sheet after z left o n d))

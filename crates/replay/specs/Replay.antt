@@ -10,7 +10,9 @@ use Rattle.register.specs.Register.{registerRead}
 use Rattle.events.specs.declared.Event.{Event}
 use Rattle.files.specs.File.{refusal, eventsOf}
 use Rattle.plain.specs.Book.{Book, openingRead, new}
-use Rattle.plain.specs.Histories.{callsOf, run}
+use Rattle.plain.specs.Calls.{Call}
+use Rattle.plain.specs.Histories.{callsOf, next, pieces, run}
+use Rattle.pieces.specs.Sheet.{sheetWith}
 use Rattle.machine.specs.declared.Core.{Core}
 use Rattle.calls.specs.declared.Opened.{Opened}
 use Rattle.calls.specs.Opening.{OpenedOn}
@@ -49,6 +51,12 @@ pub record PlayedUpTo (b : Core) (a : Numbers) (events : List Event) (after : Co
   pub held : Held after z
   pub runs : RunsTo (record { core = b; numbers = a }) (callsOf events) (record { core = after; numbers = z })
   pub book : bookOf after z ≡ run (bookOf b a) (callsOf events)
+
+-- a sheet of numbers after calls that were made on it, one after the other: "The pieces fill the first places of a lent sheet ..; later places keep their
+-- content", call by call
+unfoldable pub sheetAfter : Book → List Call → List ℕ → List ℕ
+sheetAfter b [] sheet = sheet
+sheetAfter b (c ∷ cs) sheet = sheetAfter (next b c) cs (sheetWith (pieces b c) sheet)
 
 -- events played on a new book: the calls of the events were made from what opening answered to the register
 pub record PlayedFrom (register : List ℕ) (events : List Event) (z : Stand) : Type 0 where

@@ -7,10 +7,10 @@ ghost use Rattle.files.specs.File.{eventsOf};
 ghost use Rattle.plain.specs.Book as plain;
 ghost use Rattle.plain.specs.Histories.{run, callsOf};
 ghost use Rattle.ledger.specs.Posts.{ledgerOf};
-ghost use Rattle.machine.specs.View.{Numbers, numbers, Held, Blank};
+ghost use Rattle.machine.specs.View.{Numbers, numbers, bookOf, Held, Blank};
 ghost use Rattle.book.specs.View.{view, Valid};
 ghost use Rattle.history.specs.Runs.{standOf, RunsTo};
-ghost use Rattle.replay.specs.Replay.{ReadyFor, PlayedUpTo, NewlyHeld, OpensAs, ReplayedFrom};
+ghost use Rattle.replay.specs.Replay.{ReadyFor, PlayedUpTo, sheetAfter, NewlyHeld, OpensAs, ReplayedFrom};
 use book::Book;
 use calls::Core;
 use laws::ACCOUNTS;
@@ -66,7 +66,7 @@ pub fn play(
     stop: usize,
 ) -> Core
     requires { ⌜ (Held core (numbers (now rows) (now trades) (now awards) (now counts) (now starts) (now words) (ledgerOf (now credits) (now debits)))) × (length (now sheet) ≡ SHEET-CELLS) × (stop ≤ length (eventsOf (now file))) ⌝ }
-    ensures { λ r. ⌜ (PlayedUpTo core (numbers (now (rows .entry)) (now (trades .entry)) (now (awards .entry)) (now (counts .entry)) (now (starts .entry)) (now (words .entry)) (ledgerOf (now (credits .entry)) (now (debits .entry)))) (take stop (eventsOf (now (file .entry)))) r (numbers (now (rows .exit)) (now (trades .exit)) (now (awards .exit)) (now (counts .exit)) (now (starts .exit)) (now (words .exit)) (ledgerOf (now (credits .exit)) (now (debits .exit))))) × (length (now (sheet .exit)) ≡ SHEET-CELLS) ⌝ }
+    ensures { λ r. ⌜ (PlayedUpTo core (numbers (now (rows .entry)) (now (trades .entry)) (now (awards .entry)) (now (counts .entry)) (now (starts .entry)) (now (words .entry)) (ledgerOf (now (credits .entry)) (now (debits .entry)))) (take stop (eventsOf (now (file .entry)))) r (numbers (now (rows .exit)) (now (trades .exit)) (now (awards .exit)) (now (counts .exit)) (now (starts .exit)) (now (words .exit)) (ledgerOf (now (credits .exit)) (now (debits .exit))))) × (now (sheet .exit) ≡ sheetAfter (bookOf core (numbers (now (rows .entry)) (now (trades .entry)) (now (awards .entry)) (now (counts .entry)) (now (starts .entry)) (now (words .entry)) (ledgerOf (now (credits .entry)) (now (debits .entry))))) (callsOf (take stop (eventsOf (now (file .entry))))) (now (sheet .entry))) ⌝ }
 {
     let mut after = core;
     let mut i: usize = 0;

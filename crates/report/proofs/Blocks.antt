@@ -1,9 +1,9 @@
 -- Texts of the elements of a list, written one after the other.
-use Prim.Native.Nat.{ℕ, zero, suc, _+_, _-_, _*_, _≤_, _<_, min}
+use Prim.Native.Nat.{ℕ, _+_, _*_, _≤_, _<_, min}
 use native.Mathlib.Numerals.{add-one}
 use native.Mathlib.Omega.{arith}
-use mathlib.Core.Path.{_≡_, refl, ap, sym, _∙_, subst}
-use mathlib.Core.List.{List, [], _∷_, _++_, append-nil, map}
+use mathlib.Core.Path.{_≡_, ap, sym, _∙_, subst}
+use mathlib.Core.List.{List, [], _∷_, _++_, append-nil}
 use lib.ListN.{length, getD, take, drop, length-append, take-append-drop}
 use lib.Seq.{take-suc, take-take, take-all, getD-take, length-take-le}
 use lib.Dec.{ltb}
@@ -95,12 +95,6 @@ take-min xs n m e = go (ask (ltb m n))
     go (failed l) =
         let few : n ≤ m = ltb-false m n l in
         ap (λ (k : ℕ). take k xs) (let same : min n m ≡ n = omega arith in same)
-
--- the first of what f makes of each
-pub take-map : {A B : Type 0} (f : A → B) (n : ℕ) (xs : List A) → take n (map f xs) ≡ map f (take n xs)
-take-map f zero xs = refl
-take-map f (suc n) [] = refl
-take-map f (suc n) (x ∷ xs) = rw (take-map f n xs)
 
 -- a whole range is taken
 pub take-range : (a n : ℕ) → take n (range a n) ≡ range a n

@@ -1,7 +1,7 @@
 -- Document 01, 'Event files and the player': the lines that the player prints. Letters and signs are ASCII bytes.
 use Prim.Native.Nat.{ℕ, zero, suc, _-_}
-use mathlib.Core.Path.{_≡_, refl, ap}
-use mathlib.Core.List.{List, [], _∷_, _++_, map}
+use mathlib.Core.Path.{_≡_, refl}
+use mathlib.Core.List.{List, [], _∷_, _++_}
 use mathlib.Core.Bool.{Bool, true, false, cond}
 use lib.ListN.{length, getD}
 use lib.Seq.{sets}
@@ -11,11 +11,9 @@ use Rattle.laws.specs.Limits.{ACCOUNTS}
 use Rattle.laws.specs.Lists.{range, filter, each}
 use Rattle.plain.specs.declared.Position.{Position}
 use Rattle.plain.specs.declared.Piece.{Piece}
-use Rattle.plain.specs.declared.Manner.{Manner}
 use Rattle.plain.specs.declared.Ledger.{Ledger}
 use Rattle.plain.specs.Book.{Book, nth, noPosition}
 use Rattle.plain.specs.Histories.{balance}
-use Rattle.pieces.specs.Sheet.{inManner}
 use Rattle.report.specs.Digits.{digits, digitsFrom}
 
 -- a field stands after a blank
@@ -91,12 +89,6 @@ endingAt width text page = cond (ltb (length page) width) page (cond (ltb width 
 
 unfoldable pub pieceLines : List Piece → List ℕ
 pieceLines ps = each pieceLine ps
-
--- a piece's line does not tell its manner
-pub lines-of-any-manner : (m : Manner) (xs : List Piece) → pieceLines (map (inManner m) xs) ≡ pieceLines xs
-unfolding pieceLine pieceLines
-lines-of-any-manner m [] = refl
-lines-of-any-manner m (x ∷ xs) = ap (λ (text : List ℕ). pieceLine x ++ text) (lines-of-any-manner m xs)
 
 -- an event's line, and the lines of its pieces
 unfoldable pub eventLines : ℕ → ℕ → ℕ → List Piece → List ℕ

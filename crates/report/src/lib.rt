@@ -17,7 +17,6 @@ use laws::ACCOUNTS;
 use laws::PLACES;
 use laws::POSITION_CELLS;
 use laws::SHEET_CELLS;
-use plain::Manner;
 use plain::Piece;
 use plain::Position;
 
@@ -231,9 +230,8 @@ fn at_most(count: usize) -> usize
 }
 
 // The lines of the first `count` pieces, of all 1,024 if `count` is more. The page has at least 80 bytes for each.
-// A line does not tell the manner of its piece.
 pub fn piece_lines(page: &mut [u8], sheet: &[u64; SHEET_CELLS], count: usize) -> usize
-    ensures { λ r. ⌜ ((m : Manner) → Wrote (LINE * min count PLACES) (pieceLines (take count (piecesOf m (now (sheet .entry))))) (now (page .entry)) (now (page .exit)) r) ⌝ }
+    ensures { λ r. ⌜ Wrote (LINE * min count PLACES) (pieceLines (take count (piecesOf (now (sheet .entry))))) (now (page .entry)) (now (page .exit)) r ⌝ }
 {
     let stop = at_most(count);
     if page.len() < LINE * stop {
@@ -242,7 +240,7 @@ pub fn piece_lines(page: &mut [u8], sheet: &[u64; SHEET_CELLS], count: usize) ->
     let mut at: usize = 0;
     let mut i: usize = 0;
     while i < stop {
-        let piece = pieces::piece_at(sheet, i, Manner::Delivered);
+        let piece = pieces::piece_at(sheet, i);
         at += piece_line(&mut page[at..], piece);
         i += 1;
     }
@@ -258,7 +256,7 @@ pub fn event_lines(
     sheet: &[u64; SHEET_CELLS],
     count: usize,
 ) -> usize
-    ensures { λ r. ⌜ ((m : Manner) → Wrote (LINE * (1 + min count PLACES)) (eventLines number refusal quantity (take count (piecesOf m (now (sheet .entry))))) (now (page .entry)) (now (page .exit)) r) ⌝ }
+    ensures { λ r. ⌜ Wrote (LINE * (1 + min count PLACES)) (eventLines number refusal quantity (take count (piecesOf (now (sheet .entry))))) (now (page .entry)) (now (page .exit)) r ⌝ }
 {
     let stop = at_most(count);
     if page.len() < LINE * (1 + stop) {

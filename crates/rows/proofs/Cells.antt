@@ -24,7 +24,7 @@ kind-back : (kind : Kind) → kindOf (kindNumber kind) ≡ kind
 kind-back Own = refl
 kind-back Client = refl
 
-row-reads : Reads 12 rowFrom
+pub row-reads : Reads 12 rowFrom
 row-reads xs ys i j e =
     rw (first-cell 12 xs ys i j (omega arith) e, e 1 (omega arith), e 2 (omega arith), e 3 (omega arith), e 4 (omega arith), e 5 (omega arith), e 6 (omega arith), e 7 (omega arith), e 8 (omega arith), e 9 (omega arith), e 10 (omega arith), e 11 (omega arith))
 

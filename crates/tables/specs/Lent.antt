@@ -3,7 +3,6 @@ use Prim.Native.Nat.{ℕ, _-_}
 use mathlib.Core.List.{List}
 use lib.ListN.{getD}
 use Rattle.plain.specs.declared.Position.{Position}
-use Rattle.plain.specs.declared.Manner.{Manner}
 use Rattle.plain.specs.Book.{noPosition}
 use Rattle.rows.specs.Rows.{rowsOf, tradesOf, awardsOf}
 use Rattle.pieces.specs.Sheet.{piecesOf}
@@ -19,8 +18,8 @@ tradeTable trades count netted = record { items = tradesOf trades; count = count
 abbrev pub awardTable : List ℕ → ℕ → Awards
 awardTable awards count = record { items = awardsOf awards; count = count }
 
-abbrev pub pieceTable : Manner → List ℕ → ℕ → Pieces
-pieceTable manner sheet count = record { items = piecesOf manner sheet; count = count }
+abbrev pub pieceTable : List ℕ → ℕ → Pieces
+pieceTable sheet count = record { items = piecesOf sheet; count = count }
 
 -- the position of a number, as its row has it
 abbrev pub rowOf : List ℕ → ℕ → Position

@@ -10,21 +10,22 @@ use Rattle.laws.specs.Asked.{Said, passed, failed, ask}
 use Rattle.events.specs.declared.Event.{Event}
 use Rattle.events.specs.declared.Event.the-variants as event
 use Rattle.files.specs.File.{eventsOf}
-use Rattle.plain.specs.declared.Manner.{Manner}
 use Rattle.plain.specs.declared.Outcome.{Outcome}
 use Rattle.plain.specs.Calls.{call}
 use Rattle.plain.specs.Refusals.{refusal}
-use Rattle.plain.specs.Histories.{next, quantity, run, callsOf}
-use Rattle.pieces.specs.Sheet.{piecesOf}
+use Rattle.plain.specs.Book as plain
+use Rattle.plain.specs.Histories.{next, pieces, quantity, run, callsOf}
+use Rattle.pieces.specs.Sheet.{piecesOf, sheetWith}
 use Rattle.kept.specs.View.{numberOf, quantityOf}
 use Rattle.machine.specs.declared.Core.{Core}
 use Rattle.machine.specs.View.{Numbers, bookOf, Held}
-use Rattle.calls.specs.Stepping.{mannerOf, Stepped}
+use Rattle.calls.specs.Stepping.{Stepped}
 use Rattle.machine.specs.Answers.{answered-number, answered-quantity}
 use Rattle.report.specs.Lines.{LINE, eventLines}
 use Rattle.report.specs.Pages.{Put, Wrote, wrote-put, put-lent, put-text, put-none, put-length, lent, back, length-lent}
 use Rattle.transcript.specs.Transcript.{eventText, eventsText}
-use Rattle.replay.specs.Replay.{PlayedUpTo}
+use Rattle.replay.specs.Replay.{PlayedUpTo, sheetAfter}
+use Rattle.replay.proofs.Playing as playing
 use Rattle.replay.proofs.Playing.{none-played, one-played, then-played}
 use Rattle.transcript.specs.Texts.{one-more, text-more}
 use Rattle.transcript.specs.Playing.{BLOCK, PlayedOn, between}
@@ -37,14 +38,12 @@ pub record Shown (b : Core) (a : Numbers) (e : Event) (number : ℕ) (entry exit
 
 -- its number, quantity and pieces are written as it answered them, the pieces from the sheet as it left it
 pub shown : (b : Core) (a : Numbers) (e : Event) (number : ℕ) (entry exit : List ℕ) (after : Core) (z : Numbers) (sheet left : List ℕ) (o : Outcome) (n used : ℕ) → BLOCK ≤ length entry → Stepped b a e sheet after z left o n
-    → ((m : Manner) → Wrote (LINE * (1 + min n 1024)) (eventLines number (numberOf o) (quantityOf o) (take n (piecesOf m left))) entry exit used)
+    → Wrote (LINE * (1 + min n 1024)) (eventLines number (numberOf o) (quantityOf o) (take n (piecesOf left))) entry exit used
     → Shown b a e number entry exit after z used
 unfolding eventText
-shown b a e number entry exit after z sheet left o n used room d writes =
+shown b a e number entry exit after z sheet left o n used room d w =
     let s = d .called .returned in
-    let m = mannerOf e in
-    let w = writes m in
-    let text : eventLines number (numberOf o) (quantityOf o) (take n (piecesOf m left)) ≡ eventText (bookOf b a) number e = rw (answered-number o (refusal (bookOf b a) (call e 1024)) (quantity (bookOf b a) (call e 1024)) (s .outcome), answered-quantity (bookOf b a) (call e 1024) o (s .outcome), s .pieces) in
+    let text : eventLines number (numberOf o) (quantityOf o) (take n (piecesOf left)) ≡ eventText (bookOf b a) number e = rw (answered-number o (refusal (bookOf b a) (call e 1024)) (quantity (bookOf b a) (call e 1024)) (s .outcome), answered-quantity (bookOf b a) (call e 1024) o (s .outcome), s .pieces) in
     record {
       text = put-text _ _ entry exit used text (wrote-put _ _ entry exit used (omega (arith, room)) w);
       fits = omega (arith, w .most);
@@ -91,6 +90,16 @@ one-reached file b a from to entry page part played after z y e number used more
       most = omega (arith, h .low, h .most, s .fits);
       played' = rw (one-more es from to event.Close e (h .low) inside is) (then-played b a (between file from to) (e ∷ []) played after z y (h .played') (s .played));
     }
+
+-- the sheet as the calls of no event, and of one event more, leave it
+pub none-filled : (file : List ℕ) (b : plain.Book) (from : ℕ) (sheet : List ℕ) → sheet ≡ sheetAfter b (callsOf (between file from from)) sheet
+none-filled file b from sheet = let none : from - from ≡ 0 = omega arith in rw none (playing.none-filled b sheet)
+
+pub more-filled : (file : List ℕ) (b w : plain.Book) (from to : ℕ) (e : Event) (entry sheet left : List ℕ) → from ≤ to → to < length (eventsOf file) → e ≡ getD (eventsOf file) to event.Close
+    → w ≡ run b (callsOf (between file from to)) → sheet ≡ sheetAfter b (callsOf (between file from to)) entry → left ≡ sheetWith (pieces w (call e 1024)) sheet
+    → left ≡ sheetAfter b (callsOf (between file from (to + 1))) entry
+more-filled file b w from to e entry sheet left low inside is book before one =
+    rw (one-more (eventsOf file) from to event.Close e low inside is) (playing.more-filled b w (between file from to) e entry sheet left book before one)
 
 -- the part of the page that is lent has room for one more event
 pub room-left : (file : List ℕ) (b : Core) (a : Numbers) (from to : ℕ) (entry page : List ℕ) (played : Core) (z : Numbers) (used : ℕ) → Reached file b a from to entry page played z used

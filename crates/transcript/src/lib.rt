@@ -4,16 +4,17 @@ ghost use mathlib.Core.List.{List};
 ghost use Prim.Native.Nat.{ℕ, _+_, _*_, min};
 ghost use lib.ListN.{length, take};
 ghost use Rattle.laws.specs.Limits.{PLACES, SHEET-CELLS};
-ghost use Rattle.plain.specs.declared.Manner.{Manner};
 ghost use Rattle.plain.specs.declared.Outcome.the-variants as outcome;
 ghost use Rattle.pieces.specs.Sheet.{piecesOf};
+ghost use Rattle.plain.specs.Histories.{callsOf};
 ghost use Rattle.kept.specs.View.{numberOf, quantityOf};
+ghost use Rattle.replay.specs.Replay.{sheetAfter};
 ghost use Rattle.ledger.specs.Posts.{ledgerOf};
 ghost use Rattle.machine.specs.View.{Numbers, numbers, onRows, onLedger, bookOf, Held};
 ghost use Rattle.report.specs.Lines.{LINE, eventLines};
 ghost use Rattle.report.specs.Pages.{Wrote};
 ghost use Rattle.transcript.specs.Transcript.{registerLength, endText};
-ghost use Rattle.transcript.specs.Playing.{StartedOn, BLOCK, END, PlayedOn};
+ghost use Rattle.transcript.specs.Playing.{StartedOn, BLOCK, END, PlayedOn, between};
 use calls::Answered;
 use calls::Core;
 use events::Event;
@@ -101,7 +102,7 @@ pub fn answer_lines(
     sheet: &[u64; SHEET_CELLS],
     pieces: usize,
 ) -> usize
-    ensures { λ r. ⌜ ((m : Manner) → Wrote (LINE * (1 + min pieces PLACES)) (eventLines number (numberOf outcome) (quantityOf outcome) (take pieces (piecesOf m (now (sheet .entry))))) (now (page .entry)) (now (page .exit)) r) ⌝ }
+    ensures { λ r. ⌜ Wrote (LINE * (1 + min pieces PLACES)) (eventLines number (numberOf outcome) (quantityOf outcome) (take pieces (piecesOf (now (sheet .entry))))) (now (page .entry)) (now (page .exit)) r ⌝ }
 {
     let refusal = number_of(outcome);
     let quantity = quantity_of(outcome);
@@ -138,7 +139,7 @@ pub fn play_events(
     from: usize,
 ) -> Played
     requires { ⌜ (Held core (numbers (now rows) (now trades) (now awards) (now counts) (now starts) (now words) (ledgerOf (now credits) (now debits)))) × (length (now sheet) ≡ SHEET-CELLS) ⌝ }
-    ensures { λ r. ⌜ (PlayedOn (now (file .entry)) core (numbers (now (rows .entry)) (now (trades .entry)) (now (awards .entry)) (now (counts .entry)) (now (starts .entry)) (now (words .entry)) (ledgerOf (now (credits .entry)) (now (debits .entry)))) from (now (page .entry)) (now (page .exit)) (numbers (now (rows .exit)) (now (trades .exit)) (now (awards .exit)) (now (counts .exit)) (now (starts .exit)) (now (words .exit)) (ledgerOf (now (credits .exit)) (now (debits .exit)))) r) × (length (now (sheet .exit)) ≡ SHEET-CELLS) ⌝ }
+    ensures { λ r. ⌜ (PlayedOn (now (file .entry)) core (numbers (now (rows .entry)) (now (trades .entry)) (now (awards .entry)) (now (counts .entry)) (now (starts .entry)) (now (words .entry)) (ledgerOf (now (credits .entry)) (now (debits .entry)))) from (now (page .entry)) (now (page .exit)) (numbers (now (rows .exit)) (now (trades .exit)) (now (awards .exit)) (now (counts .exit)) (now (starts .exit)) (now (words .exit)) (ledgerOf (now (credits .exit)) (now (debits .exit)))) r) × (length (now (sheet .exit)) ≡ SHEET-CELLS) × (now (sheet .exit) ≡ sheetAfter (bookOf core (numbers (now (rows .entry)) (now (trades .entry)) (now (awards .entry)) (now (counts .entry)) (now (starts .entry)) (now (words .entry)) (ledgerOf (now (credits .entry)) (now (debits .entry))))) (callsOf (between (now (file .entry)) from (r .next))) (now (sheet .entry))) ⌝ }
 {
     let count = files::events_in(file) as usize;
     let room = page.len();

@@ -28,21 +28,18 @@ step-requires c κs =
     let k = c .before .before .before .before .before .before .before .before .before in
     (k .before .before .before .before .before .before .before .before .before .before .before .pre .held, k .blank-numbers .ensures .1)
 
-manner-of-requires : tie.Need-manner-of-requires
-manner-of-requires c κs = search needs
-
 handed-out-requires : tie.Need-handed-out-requires
 handed-out-requires c κs = search needs
 
 returns-2 : tie.Need-returns-2
 returns-2 c =
-    let k = c .before .before .before in
+    let k = c .before .before in
     let j = k .before .before .before .before .before .before .before .before .before .before .before .before .before .before .before .before .before .before .before in
     let s = j .before .before in
-    rw (c .handed-out .ensures, c .before .before .manner-of .ensures)
+    rw (c .handed-out .ensures)
     (stepped _ _ _
     (⊎-elim (λ w. long-sheet _ _ _ (le-ltb (s .args .sheet) 1024 (omega (arith, w .1 .left)))) (λ w. any-sheet _ _ _ _ (sym (j .before .is-discharge .ensures) ∙ w .left)) (j .if1 .came))
-    _ _ _ _ _ _ (k .step .ensures))
+    _ _ _ _ _ (k .step .ensures))
 
 pub step-spec : {M : Type 1} → statement M
 step-spec =
@@ -53,6 +50,5 @@ step-spec =
     returns
     blank-numbers-requires
     step-requires
-    manner-of-requires
     handed-out-requires
     returns-2)

@@ -75,13 +75,13 @@ returns : tie.Need-returns
 returns c =
     let k = c .before .before .before in
     let s = k .before .before in
-    rw (k .e .given .1) (bare-on _ _ _ _ _ _ _ _ _ refl (s .pre .1) (c .trade .ensures (entry s) (s .pre .0)))
+    rw (k .e .given .1) (bare-on _ _ _ _ _ _ _ _ refl (s .pre .1) (c .trade .ensures (entry s) (s .pre .0)))
 
 returns-2 : tie.Need-returns-2
 returns-2 c =
     let k = c .before .before in
     let s = k .before .before in
-    rw (k .e2 .given .1) (bare-on _ _ _ _ _ _ _ _ _ refl (s .pre .1) (c .price .ensures _ (s .pre .0)))
+    rw (k .e2 .given .1) (bare-on _ _ _ _ _ _ _ _ refl (s .pre .1) (c .price .ensures _ (s .pre .0)))
 
 returns-3 : tie.Need-returns-3
 returns-3 c =
@@ -92,19 +92,19 @@ returns-4 : tie.Need-returns-4
 returns-4 c =
     let k = c .before .before .before in
     let s = k .before .before in
-    rw (k .e4 .given .1) (bare-on _ _ _ _ _ _ _ _ _ refl (s .pre .1) (c .attempt .ensures (entry s) (s .pre .0)))
+    rw (k .e4 .given .1) (bare-on _ _ _ _ _ _ _ _ refl (s .pre .1) (c .attempt .ensures (entry s) (s .pre .0)))
 
 returns-5 : tie.Need-returns-5
 returns-5 c =
     let k = c .before .before .before .before in
     let s = k .before .before in
-    rw (k .e5 .given .1) (bare-on _ _ _ _ _ _ _ _ _ refl (s .pre .1) (c .offer .ensures (entry s) (s .pre .0)))
+    rw (k .e5 .given .1) (bare-on _ _ _ _ _ _ _ _ refl (s .pre .1) (c .offer .ensures (entry s) (s .pre .0)))
 
 returns-6 : tie.Need-returns-6
 returns-6 c =
     let k = c .before .before .before .before in
     let s = k .before .before in
-    rw (k .e6 .given .1) (bare-on _ _ _ _ _ _ _ _ _ refl (s .pre .1) (c .award .ensures (entry s) (s .pre .0)))
+    rw (k .e6 .given .1) (bare-on _ _ _ _ _ _ _ _ refl (s .pre .1) (c .award .ensures (entry s) (s .pre .0)))
 
 returns-7 : tie.Need-returns-7
 returns-7 c =
@@ -120,7 +120,7 @@ returns-9 : tie.Need-returns-9
 returns-9 c =
     let k = c .before .before .before .before .before .before .before .before in
     let s = k .before .before in
-    rw (k .enum-told .given .1) (bare-on _ _ _ _ _ _ _ _ _ refl (s .pre .1) (c .close .ensures _ (s .pre .0)))
+    rw (k .enum-told .given .1) (bare-on _ _ _ _ _ _ _ _ refl (s .pre .1) (c .close .ensures _ (s .pre .0)))
 
 returns-10 : tie.Need-returns-10
 returns-10 c =

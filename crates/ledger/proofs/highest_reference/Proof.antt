@@ -7,16 +7,15 @@ use mathlib.Core.Logic.{⊎-elim}
 use lib.ListN.{length, getD}
 use Rattle.plain.specs.declared.Position.{Position}
 use Rattle.plain.specs.declared.Piece.{Piece}
-use Rattle.plain.specs.declared.Manner.the-variants.{Cash}
 use Rattle.plain.specs.Book.{noPosition, nth}
 use Rattle.tables.specs.Tables.{Positions, positions, pieces}
 use Rattle.rows.specs.Rows.{rowsOf}
-use Rattle.pieces.specs.Sheet.{piecesOf}
+use Rattle.pieces.specs.Sheet.{piecesOf, noPiece}
 use Rattle.tables.specs.Lent.{positionTable}
 use Rattle.ledger.specs.Tabled.{Paired}
 use Rattle.ledger.specs.Settling.{highestLong}
 use Rattle.ledger.proofs.Elements.{element, position-at}
-use Rattle.ledger.proofs.Settling.{noPiece, Highest, highest-one, highest-end}
+use Rattle.ledger.proofs.Settling.{Highest, highest-one, highest-end}
 use Rattle.ledger.proofs.highest_reference.Statement.{statement}
 use Rattle.ledger.proofs.highest_reference.Tie as tie
 
@@ -26,7 +25,7 @@ referenceOf p x = nth noPosition (positions p) (x .long) .reference
 
 abbrev Inv-loop : tie.InvT-loop
 Inv-loop rows held sheet dealt highest₀ i₀ highest i =
-    Highest (referenceOf (positionTable rows held)) dealt (piecesOf Cash sheet) i highest × (i ≤ dealt)
+    Highest (referenceOf (positionTable rows held)) dealt (piecesOf sheet) i highest × (i ≤ dealt)
 
 abbrev μ-loop : tie.MeasureT-loop
 μ-loop rows held sheet dealt highest₀ i₀ highest i = dealt - i
@@ -34,11 +33,11 @@ abbrev μ-loop : tie.MeasureT-loop
 abbrev start : tie.In-loop Inv-loop μ-loop → tie.Start Inv-loop μ-loop
 start y = y .before .before
 
-long : (s : tie.Start Inv-loop μ-loop) → s .args .dealt ≤ length (piecesOf Cash (s .args .sheet .now))
+long : (s : tie.Start Inv-loop μ-loop) → s .args .dealt ≤ length (piecesOf (s .args .sheet .now))
 long s = let f = s .pre .pieces-fit in omega (arith, f .places, f .held)
 
 abbrev pieceAt : tie.In-loop Inv-loop μ-loop → Piece
-pieceAt y = getD (piecesOf Cash (start y .args .sheet .now)) (y .before .loop .i) noPiece
+pieceAt y = getD (piecesOf (start y .args .sheet .now)) (y .before .loop .i) noPiece
 
 paired : (y : tie.In-loop Inv-loop μ-loop) → Paired (start y .args .held) (pieceAt y)
 unfolding pieces
@@ -49,7 +48,7 @@ abbrev turn : tie.After-row-at Inv-loop μ-loop → tie.In-loop Inv-loop μ-loop
 turn r = r .before .before
 
 long-is : (r : tie.After-row-at Inv-loop μ-loop) → r .row-at .result ≡ getD (rowsOf (start (turn r) .args .rows .now)) (pieceAt (turn r) .long - 1) noPosition
-long-is r = rw (← r .before .long-at .ensures Cash) (r .row-at .ensures)
+long-is r = rw (← r .before .long-at .ensures) (r .row-at .ensures)
 
 reference-is : (r : tie.After-row-at Inv-loop μ-loop) → let a = start (turn r) .args in r .row-at .result .reference ≡ referenceOf (positionTable (a .rows .now) (a .held)) (pieceAt (turn r))
 reference-is r =
@@ -63,7 +62,7 @@ long-at-requires : tie.Need-long-at-requires Inv-loop μ-loop
 long-at-requires c κs = omega (arith, c .loop-test .taken, start c .pre .pieces-fit .held)
 
 sub-place : tie.Need-sub-place Inv-loop μ-loop
-sub-place c = omega (arith, c .long-at .ensures Cash, paired (c .before) .long .above)
+sub-place c = omega (arith, c .long-at .ensures, paired (c .before) .long .above)
 
 cast-place : tie.Need-cast-place Inv-loop μ-loop
 cast-place c = search needs
@@ -71,7 +70,7 @@ cast-place c = search needs
 row-at-requires : tie.Need-row-at-requires Inv-loop μ-loop
 row-at-requires c κs =
     let y = c .before in
-    omega (arith, c .long-at .ensures Cash, paired y .long .above, paired y .long .below, start y .pre .positions-fit .held)
+    omega (arith, c .long-at .ensures, paired y .long .above, paired y .long .below, start y .pre .positions-fit .held)
 
 add-i : tie.Need-add-i Inv-loop μ-loop
 add-i c = omega arith

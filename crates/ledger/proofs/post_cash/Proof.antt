@@ -6,14 +6,13 @@ use mathlib.Core.Path.{_≡_, sym, _∙_}
 use Rattle.rules.specs.Charges.{cashFee}
 use Rattle.rules.specs.Charged.{by-highest-long}
 use Rattle.tables.specs.Lent.{positionTable, pieceTable}
-use Rattle.plain.specs.declared.Manner.the-variants.{Cash}
 use Rattle.ledger.specs.Settling.{highestLong, priceOf}
 use Rattle.ledger.proofs.Posts.{posted-append, room-first, room-then}
 use Rattle.ledger.proofs.post_cash.Statement.{statement}
 use Rattle.ledger.proofs.post_cash.Tie as tie
 
 price-is : (x : tie.After-cash-price)
-    → let a = x .before .before .before .args in x .cash-price .result ≡ priceOf (a .class) (a .latest) (a .short) (positionTable (a .rows .now) (a .held)) (pieceTable Cash (a .sheet .now) (a .dealt))
+    → let a = x .before .before .before .args in x .cash-price .result ≡ priceOf (a .class) (a .latest) (a .short) (positionTable (a .rows .now) (a .held)) (pieceTable (a .sheet .now) (a .dealt))
 unfolding priceOf highestLong
 price-is x =
     rw (x .before .highest-reference .ensures) at (x .cash-price .ensures)
@@ -57,7 +56,7 @@ returns c =
     let p = f .before .before in
     let x = p .before .before .before .before in
     let g = p .post-payments .ensures in
-    (rw (price-is x) at (g .0), (rw (g .1, price-is x, fee-is f) at (c .post .ensures)) ∙ posted-append _ _ _, g .2)
+    (rw (price-is x) at (g .0), (rw (g .1, price-is x, fee-is f) at (c .post .ensures)) ∙ posted-append _ _ _)
 
 pub post-cash-spec : {M : Type 1} → statement M
 post-cash-spec =

@@ -1,29 +1,28 @@
--- `pieces::numbers_of` meets its contract. The invariant: the places passed say the pieces, in every manner.
+-- `pieces::numbers_of` meets its contract. The invariant: the places passed say the pieces, and hold their numbers.
 use borrow.Author.Needs.{needs}
 use native.Mathlib.Omega.{arith}
-use Prim.Native.Nat.{_-_, _≤_}
+use Prim.Native.Nat.{_+_, _-_, _≤_}
 use mathlib.Core.Path.{_≡_, refl}
-use mathlib.Core.List.{map}
-use lib.ListN.{length, take, length-map}
-use Rattle.laws.specs.Limits.{SHEET-CELLS}
-use Rattle.plain.specs.declared.Manner.{Manner}
-use Rattle.pieces.specs.Sheet.{piecesOf, inManner}
+use lib.ListN.{length, take}
+use Rattle.laws.specs.Limits.{PLACES, SHEET-CELLS}
+use Rattle.pieces.specs.Sheet.{piecesOf}
 use Rattle.pieces.proofs.Cells.{length-pieces}
-use Rattle.pieces.proofs.Filling.{filled, piece-next}
+use Rattle.pieces.proofs.Filled.{Filled, piece-fills, cents-fill}
+use Rattle.pieces.proofs.Filling.{filled, piece-next, all-cells}
 use Rattle.pieces.proofs.numbers_of.Statement.{statement}
 use Rattle.pieces.proofs.numbers_of.Tie as tie
 
 abbrev Inv-loop : tie.InvT-loop
-Inv-loop items sheet₀ i₀ sheet i = (i ≤ 1024) × (length sheet ≡ SHEET-CELLS) × ((m : Manner) → take i (piecesOf m sheet) ≡ take i (map (inManner m) items))
+Inv-loop items sheet₀ i₀ sheet i = (i ≤ PLACES) × (length sheet ≡ SHEET-CELLS) × (take i (piecesOf sheet) ≡ take i items) × Filled i sheet sheet₀
 
 abbrev μ-loop : tie.MeasureT-loop
-μ-loop items sheet₀ i₀ sheet i = 1024 - i
+μ-loop items sheet₀ i₀ sheet i = PLACES - i
 
 blank-numbers-requires : tie.Need-blank-numbers-requires Inv-loop μ-loop
 blank-numbers-requires c κs = search needs
 
 loop-holds : tie.Need-loop-holds Inv-loop μ-loop
-loop-holds c = (omega arith, c .blank-numbers .ensures .1, (λ m. refl))
+loop-holds c = (omega arith, c .blank-numbers .ensures .1, refl, refl)
 
 mul-piece : tie.Need-mul-piece Inv-loop μ-loop
 mul-piece c = omega arith
@@ -50,16 +49,22 @@ loop-again c =
     let p = c .before .before .put-piece in
     let d = c .put-cents in
     let items = n .before .before .before .args .t1 in
-    let long : length items ≡ 1024 = search needs in
-    (omega arith, d .ensures .1, (λ m. piece-next m items _ (k .i) long (n .loop-test .taken) (k .sheet) (p .last .0) (d .last .0) (k .inv .2 m) (p .ensures .0 m) (d .ensures .0 m)))
+    let long : length items ≡ PLACES = search needs in (
+      omega arith,
+      d .ensures .size,
+      piece-next items long (k .i) _ (n .loop-test .taken) (k .sheet) (p .last .0) (d .last .0) (k .inv .2) (p .ensures) (d .ensures),
+      cents-fill (k .i + 1) _ _ _ (piece-fills _ _ _ _ (k .inv .3) _ (n .loop-test .taken) (k .inv .1) (p .ensures)) (k .i) _ (omega arith) (omega arith) (d .ensures),
+    )
 
 returns : tie.Need-returns Inv-loop μ-loop
 returns c =
     let k = c .before .loop in
     let items = c .before .before .before .args .t1 in
-    let long : length items ≡ 1024 = search needs in
-    let all : k .i ≡ 1024 = omega arith in
-    ((λ m. filled (piecesOf m (k .sheet)) (map (inManner m) items) 1024 (omega (arith, length-pieces m (k .sheet))) (omega (arith, length-map items (inManner m))) (rw all at (k .inv .2 m))), k .inv .1)
+    let size = c .before .before .blank-numbers .ensures .1 in
+    let long : length items ≡ PLACES = search needs in
+    let all : k .i ≡ PLACES = omega arith in
+    let same : piecesOf (k .sheet) ≡ items = filled (piecesOf (k .sheet)) items PLACES (omega (arith, length-pieces (k .sheet))) (omega (arith, long)) (rw all at (k .inv .2)) in
+    (all-cells items long (k .sheet) _ size same (rw all at (k .inv .3)), same, k .inv .1)
 
 pub numbers-of-spec : {M : Type 1} → statement M
 numbers-of-spec =

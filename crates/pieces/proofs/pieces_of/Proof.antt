@@ -4,17 +4,17 @@ use native.Mathlib.Omega.{arith}
 use Prim.Native.Nat.{_-_, _≤_, _<_}
 use mathlib.Core.Path.{_≡_, refl}
 use lib.ListN.{length, take, length-set}
-use Rattle.pieces.specs.Sheet.{piecesOf, unpriced}
+use Rattle.pieces.specs.Sheet.{piecesOf, noPiece}
 use Rattle.pieces.proofs.Cells.{length-pieces}
 use Rattle.pieces.proofs.Filling.{filled-next, filled}
 use Rattle.pieces.proofs.pieces_of.Statement.{statement}
 use Rattle.pieces.proofs.pieces_of.Tie as tie
 
 abbrev Inv-loop : tie.InvT-loop
-Inv-loop sheet manner items₀ i₀ items i = (i ≤ 1024) × (length items ≡ 1024) × (take i items ≡ take i (piecesOf manner sheet))
+Inv-loop sheet items₀ i₀ items i = (i ≤ 1024) × (length items ≡ 1024) × (take i items ≡ take i (piecesOf sheet))
 
 abbrev μ-loop : tie.MeasureT-loop
-μ-loop sheet manner items₀ i₀ items i = 1024 - i
+μ-loop sheet items₀ i₀ items i = 1024 - i
 
 blank-pieces-requires : tie.Need-blank-pieces-requires Inv-loop μ-loop
 blank-pieces-requires c κs = search needs
@@ -41,17 +41,17 @@ loop-again : tie.Need-loop-again Inv-loop μ-loop
 loop-again c =
     let k = c .before .before .loop in
     let a = c .before .before .before .before .args in
-    let all = piecesOf (a .manner) (a .sheet .now) in
+    let all = piecesOf (a .sheet .now) in
     let inside : k .i < length (k .items) = omega (arith, k .inv .1) in
-    let within : k .i < length all = omega (arith, length-pieces (a .manner) (a .sheet .now)) in
-    (omega arith, simp length-set (k .inv .1), rw (c .piece-at .ensures) (filled-next (k .items) all (k .i) (unpriced (a .manner) 0 0 0) inside within (k .inv .2)))
+    let within : k .i < length all = omega (arith, length-pieces (a .sheet .now)) in
+    (omega arith, simp length-set (k .inv .1), rw (c .piece-at .ensures) (filled-next (k .items) all (k .i) noPiece inside within (k .inv .2)))
 
 returns : tie.Need-returns Inv-loop μ-loop
 returns c =
     let k = c .before .loop in
     let a = c .before .before .before .args in
     let all : k .i ≡ 1024 = omega arith in
-    filled (k .items) (piecesOf (a .manner) (a .sheet .now)) 1024 (omega (arith, k .inv .1)) (omega (arith, length-pieces (a .manner) (a .sheet .now))) (rw all at (k .inv .2))
+    filled (k .items) (piecesOf (a .sheet .now)) 1024 (omega (arith, k .inv .1)) (omega (arith, length-pieces (a .sheet .now))) (rw all at (k .inv .2))
 
 pub pieces-of-spec : {M : Type 1} → statement M
 pieces-of-spec =

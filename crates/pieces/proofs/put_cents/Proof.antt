@@ -1,4 +1,5 @@
 use borrow.Author.Needs.{needs}
+use mathlib.Core.Path.{refl}
 use lib.ListN.{length-set}
 use Rattle.pieces.proofs.Cells.{cents-stored}
 use Rattle.pieces.proofs.put_cents.Statement.{statement}
@@ -17,7 +18,7 @@ element-write-sheet : tie.Need-element-write-sheet
 element-write-sheet c = search needs
 
 returns : tie.Need-returns
-returns c = ((λ m. cents-stored m _ _ _ (c .pre .0) (c .pre .1)), simp length-set (c .pre .0))
+returns c = record { cells = refl; pieces = cents-stored _ _ _ (c .pre .0) (c .pre .1); size = simp length-set (c .pre .0) }
 
 pub put-cents-spec : {M : Type 1} → statement M
 put-cents-spec = tie.close (tie.spec mul-sheet add-sheet mul-sheet-2 element-write-sheet returns)

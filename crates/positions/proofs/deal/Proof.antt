@@ -7,31 +7,33 @@ use mathlib.Core.Path.{_≡_, refl, sym, ap, _∙_}
 use mathlib.Core.Logic.{⊎-elim}
 use mathlib.Core.List.{List}
 use lib.ListN.{length, getD}
-use Rattle.laws.specs.Limits.{POSITION-CELLS, SHEET-CELLS}
+use Rattle.laws.specs.Limits.{PLACES, POSITION-CELLS, SHEET-CELLS}
 use Rattle.plain.specs.Book.{noPosition}
 use Rattle.rows.specs.Rows.{rowsOf}
 use Rattle.pieces.specs.Sheet.{piecesOf}
 use Rattle.tables.specs.Lent.{positionTable, pieceTable}
 use Rattle.pieces.proofs.Cells.{length-pieces}
-use Rattle.positions.specs.Dealing.{loweredBy, shareOf, DealtOut, ClosedBefore}
+use Rattle.pieces.proofs.Filled.{StaysFilled, stays-same, stays-piece, piece-fills}
+use Rattle.positions.specs.Dealing.{shareOf, DealtOut, ClosedBefore}
 use Rattle.positions.proofs.Shares.{due-share-is, share-open, share-left}
 use Rattle.positions.proofs.Walk.{State, Stands, Walk, Walked, walk-begin, walk-join, walk-next, stepped-none, stepped-some, walk-over, walk-late, walk-done, here-sized}
 use Rattle.positions.proofs.Table.{short-lowerable}
-use Rattle.positions.proofs.Lent.{ends, skipped, closed-first, closed-taken, closed-passed, closed-changed}
+use Rattle.positions.proofs.Lent.{ends, handed-fill, skipped, closed-first, closed-taken, closed-passed, closed-changed}
 use Rattle.positions.proofs.deal.Statement.{statement}
 use Rattle.positions.proofs.deal.Tie as tie
 
 abbrev Inv-loop : tie.InvT-loop
 Inv-loop rows₀ sheet₀ count day short quantity manner start place own dealt₀ left₀ i₀ settlement rows sheet dealt left i =
     Walk manner short (day .0) (own .security) count
-    (record { items = rowsOf rows₀; shares = piecesOf manner sheet₀; dealt = dealt₀; left = left₀; place = i₀ })
-    (record { items = rowsOf rows; shares = piecesOf manner sheet; dealt = dealt; left = left; place = i })
+    (record { items = rowsOf rows₀; shares = piecesOf sheet₀; dealt = dealt₀; left = left₀; place = i₀ })
+    (record { items = rowsOf rows; shares = piecesOf sheet; dealt = dealt; left = left; place = i })
     × (i₀ ≤ i)
     × (i ≡ i₀ → getD (rowsOf rows) i noPosition .settlement .0 ≡ settlement)
     × (length rows ≡ POSITION-CELLS)
     × (length sheet ≡ SHEET-CELLS)
     × ClosedBefore (own .security) (rowsOf rows) i
     × (0 < left)
+    × StaysFilled dealt₀ sheet₀ dealt sheet
 
 abbrev μ-loop : tie.MeasureT-loop
 μ-loop rows₀ sheet₀ count day short quantity manner start place own dealt₀ left₀ i₀ settlement rows sheet dealt left i =
@@ -40,12 +42,13 @@ abbrev μ-loop : tie.MeasureT-loop
 abbrev Inv-deal : tie.InvT-deal
 Inv-deal rows₀ sheet₀ count day short quantity manner start place own dealt₀ left₀ i₀ rows sheet dealt left i =
     Walk manner short (day .0) (own .security) count
-    (record { items = rowsOf rows₀; shares = piecesOf manner sheet₀; dealt = dealt₀; left = left₀; place = i₀ })
-    (record { items = rowsOf rows; shares = piecesOf manner sheet; dealt = dealt; left = left; place = i })
+    (record { items = rowsOf rows₀; shares = piecesOf sheet₀; dealt = dealt₀; left = left₀; place = i₀ })
+    (record { items = rowsOf rows; shares = piecesOf sheet; dealt = dealt; left = left; place = i })
     × (length rows ≡ POSITION-CELLS)
     × (length sheet ≡ SHEET-CELLS)
     × ClosedBefore (own .security) (rowsOf rows) i
     × (0 < left)
+    × StaysFilled dealt₀ sheet₀ dealt sheet
 
 abbrev μ-deal : tie.MeasureT-deal
 μ-deal rows₀ sheet₀ count day short quantity manner start place own dealt₀ left₀ i₀ rows sheet dealt left i =
@@ -60,8 +63,8 @@ abbrev day-begun : tie.At-loop Inv-loop μ-loop Inv-deal μ-deal → tie.At-deal
 day-begun c = c .before .before .before .before .before .before
 
 -- where the function began, from where the short is lowered
-abbrev opened : tie.After-put-row Inv-loop μ-loop Inv-deal μ-deal → tie.Start Inv-loop μ-loop Inv-deal μ-deal
-opened c = c .before .before .before .before .before
+abbrev opened : tie.After-lower Inv-loop μ-loop Inv-deal μ-deal → tie.Start Inv-loop μ-loop Inv-deal μ-deal
+opened c = c .before .before .before .before
 
 -- where the function began
 abbrev started : tie.At-deal Inv-loop μ-loop Inv-deal μ-deal → tie.Start Inv-loop μ-loop Inv-deal μ-deal
@@ -69,7 +72,7 @@ started c = opened (c .before)
 
 -- the share with which the quantity is dealt out
 abbrev dealt-share : tie.Then4 Inv-loop μ-loop Inv-deal μ-deal → tie.After-share-of Inv-loop μ-loop Inv-deal μ-deal
-dealt-share c = c .before .before .before .before .before .before .before
+dealt-share c = c .before .before .before .before .before .before
 
 -- the walk is at a place in use
 in-table : (c : tie.After-share-of Inv-loop μ-loop Inv-deal μ-deal) → turn c .loop .i < started (day-begun (turn c)) .args .count
@@ -82,36 +85,36 @@ is-due c = omega (arith, eqb-true, c .before .before .before .if2 .taken, c .bef
 
 -- what a long takes is its share of what is left
 own-share : (c : tie.After-share-of Inv-loop μ-loop Inv-deal μ-deal)
-    → c .share-of .result ≡ shareOf (day-begun (turn c) .before .before .before .before .row-at .result .security) (turn c .loop .left) (getD (rowsOf (turn c .loop .rows)) (turn c .loop .i) noPosition)
+    → c .share-of .result ≡ shareOf (day-begun (turn c) .before .before .before .row-at .result .security) (turn c .loop .left) (getD (rowsOf (turn c .loop .rows)) (turn c .loop .i) noPosition)
 own-share c = rw (c .before .row-at2 .ensures) at (c .share-of .ensures)
 
 -- the walk's state when the short is lowered
-abbrev begun : tie.After-put-row Inv-loop μ-loop Inv-deal μ-deal → State
+abbrev begun : tie.After-lower Inv-loop μ-loop Inv-deal μ-deal → State
 begun p =
     record {
-      items = rowsOf (p .put-row .last .0);
-      shares = piecesOf (opened p .args .manner) (opened p .args .sheet .now);
+      items = rowsOf (p .lower .last .0);
+      shares = piecesOf (opened p .args .sheet .now);
       dealt = 0;
       left = opened p .args .quantity;
       place = 0;
     }
 
 -- a later state of it, by the numbers that the tables hold
-abbrev state : tie.After-put-row Inv-loop μ-loop Inv-deal μ-deal → List ℕ → List ℕ → ℕ → ℕ → ℕ → State
+abbrev state : tie.After-lower Inv-loop μ-loop Inv-deal μ-deal → List ℕ → List ℕ → ℕ → ℕ → ℕ → State
 state p rows sheet dealt left place =
-    record { items = rowsOf rows; shares = piecesOf (opened p .args .manner) sheet; dealt = dealt; left = left; place = place }
+    record { items = rowsOf rows; shares = piecesOf sheet; dealt = dealt; left = left; place = place }
 
 -- a walk of this short's quantity from there on
-abbrev Walks : tie.After-put-row Inv-loop μ-loop Inv-deal μ-deal → State → State → Type 0
+abbrev Walks : tie.After-lower Inv-loop μ-loop Inv-deal μ-deal → State → State → Type 0
 Walks p =
-    Walk (opened p .args .manner) (opened p .args .short) (opened p .args .day .0) (p .before .before .before .row-at .result .security) (opened p .args .count)
+    Walk (opened p .args .manner) (opened p .args .short) (opened p .args .day .0) (p .before .before .row-at .result .security) (opened p .args .count)
 
 -- the places before the start place take nothing
-passed-over : (p : tie.After-put-row Inv-loop μ-loop Inv-deal μ-deal)
-    → Walks p (begun p) (state p (p .put-row .last .0) (opened p .args .sheet .now) 0 (opened p .args .quantity) (opened p .args .start))
+passed-over : (p : tie.After-lower Inv-loop μ-loop Inv-deal μ-deal)
+    → Walks p (begun p) (state p (p .lower .last .0) (opened p .args .sheet .now) 0 (opened p .args .quantity) (opened p .args .start))
 passed-over p =
-    skipped _ _ _ _ _ (opened p .pre .dealing) _ _ _ (p .before .before .before .row-at .ensures) (p .before .lowered-by .ensures) _ (p .put-row .ensures .0)
-    _ (length-pieces (opened p .args .manner) (opened p .args .sheet .now)) _ (opened p .pre .within) (opened p .pre .closed)
+    skipped _ _ _ _ _ (opened p .pre .dealing) _ _ (p .before .before .row-at .ensures) _ (p .lower .ensures .0)
+    _ (length-pieces (opened p .args .sheet .now)) _ (opened p .pre .within) (opened p .pre .closed)
 
 -- the walk up to where the turn of the outer loop began
 so-far : (d : tie.At-deal Inv-loop μ-loop Inv-deal μ-deal) → Walks (d .before) (begun (d .before)) (state (d .before) (d .deal .rows) (d .deal .sheet) (d .deal .dealt) (d .deal .left) (d .deal .i))
@@ -120,13 +123,13 @@ so-far d = walk-join _ _ _ _ _ _ _ _ (passed-over (d .before)) (d .deal .inv .0)
 -- what the whole walk comes to
 dealt-out : (d : tie.At-deal Inv-loop μ-loop Inv-deal μ-deal) (rows sheet : List ℕ) (dealt left place : ℕ)
     → Stands (started d .args .count) (state (d .before) rows sheet dealt left place)
-    → Walked (started d .args .manner) (started d .args .short) (started d .args .day .0) (d .before .before .before .before .row-at .result .security)
+    → Walked (started d .args .manner) (started d .args .short) (started d .args .day .0) (d .before .before .before .row-at .result .security)
     (started d .args .count) (begun (d .before)) (state (d .before) rows sheet dealt left place)
     → DealtOut (positionTable (started d .args .rows .now) (started d .args .count)) (started d .args .day .0) (started d .args .short) (started d .args .quantity) (started d .args .manner)
-    (record { positions = positionTable rows (started d .args .count); pieces = pieceTable (started d .args .manner) sheet dealt })
+    (record { positions = positionTable rows (started d .args .count); pieces = pieceTable sheet dealt })
 dealt-out d rows sheet dealt left place stands walked =
-    ends _ _ _ _ _ (started d .pre .dealing) _ _ _ (d .before .before .before .before .row-at .ensures) (d .before .before .lowered-by .ensures) _ (d .before .put-row .ensures .0)
-    _ (length-pieces (started d .args .manner) (started d .args .sheet .now)) rows _ dealt left place stands walked
+    ends _ _ _ _ _ (started d .pre .dealing) _ _ (d .before .before .before .row-at .ensures) _ (d .before .lower .ensures .0)
+    _ (length-pieces (started d .args .sheet .now)) rows _ dealt left place stands walked
 
 sub-place : tie.Need-sub-place Inv-loop μ-loop Inv-deal μ-deal
 sub-place c = omega arith
@@ -137,20 +140,20 @@ cast-place c = omega arith
 row-at-requires : tie.Need-row-at-requires Inv-loop μ-loop Inv-deal μ-deal
 row-at-requires c κs = omega arith
 
-lowered-by-requires : tie.Need-lowered-by-requires Inv-loop μ-loop Inv-deal μ-deal
-lowered-by-requires c κs = rw (c .before .row-at .ensures) (short-lowerable _ _ _ _ (c .before .before .before .pre .dealing))
-
-put-row-requires : tie.Need-put-row-requires Inv-loop μ-loop Inv-deal μ-deal
-put-row-requires c κs = (c .before .before .before .before .pre .rows-length, omega arith)
+lower-requires : tie.Need-lower-requires Inv-loop μ-loop Inv-deal μ-deal
+lower-requires c κs =
+    let f = c .before .before .before .pre in
+    (f .rows-length, omega arith, short-lowerable _ _ _ _ (f .dealing))
 
 deal-holds : tie.Need-deal-holds Inv-loop μ-loop Inv-deal μ-deal
 deal-holds c = (
   walk-begin _ _ _ _ _ _ (passed-over c .stands),
-  c .put-row .ensures .1,
+  c .lower .ensures .1,
   opened c .pre .sheet-length,
-  closed-first _ _ _ _ _ (opened c .pre .dealing) _ _ _ (c .before .before .before .row-at .ensures) (c .before .lowered-by .ensures) _ (c .put-row .ensures .0)
-      (begun c .shares) (length-pieces (opened c .args .manner) (opened c .args .sheet .now)) _ (opened c .pre .within) (opened c .pre .closed),
+  closed-first _ _ _ _ _ (opened c .pre .dealing) _ _ (c .before .before .row-at .ensures) _ (c .lower .ensures .0)
+      (begun c .shares) (length-pieces (opened c .args .sheet .now)) _ (opened c .pre .within) (opened c .pre .closed),
   opened c .pre .some,
+  (λ s f. f),
 )
 
 settlement-at-requires : tie.Need-settlement-at-requires Inv-loop μ-loop Inv-deal μ-deal
@@ -159,7 +162,7 @@ settlement-at-requires c κs = omega arith
 loop-holds : tie.Need-loop-holds Inv-loop μ-loop Inv-deal μ-deal
 loop-holds c =
     let h = c .before .before .before .before .before .deal .inv in
-    (walk-begin _ _ _ _ _ _ (h .0 .stands), omega arith, λ e. sym (c .before .before .settlement-at .ensures), h .1, h .2, h .3, h .4)
+    (walk-begin _ _ _ _ _ _ (h .0 .stands), omega arith, λ e. sym (c .before .before .settlement-at .ensures), h .1, h .2, h .3, h .4, (λ s f. f))
 
 settlement-at-requires-2 : tie.Need-settlement-at-requires-2 Inv-loop μ-loop Inv-deal μ-deal
 settlement-at-requires-2 c κs = omega arith
@@ -174,7 +177,7 @@ deal-less c =
 deal-again : tie.Need-deal-again Inv-loop μ-loop Inv-deal μ-deal
 deal-again c =
     let k = c .before .before .before .before in
-    (walk-join _ _ _ _ _ _ _ _ (day-begun k .deal .inv .0) (k .loop .inv .0), k .loop .inv .3, k .loop .inv .4, k .loop .inv .5, k .loop .inv .6)
+    (walk-join _ _ _ _ _ _ _ _ (day-begun k .deal .inv .0) (k .loop .inv .0), k .loop .inv .3, k .loop .inv .4, k .loop .inv .5, k .loop .inv .6, (λ s f. k .loop .inv .7 s (day-begun k .deal .inv .5 s f)))
 
 deal-less-2 : tie.Need-deal-less-2 Inv-loop μ-loop Inv-deal μ-deal
 deal-less-2 c = omega arith
@@ -182,7 +185,7 @@ deal-less-2 c = omega arith
 deal-again-2 : tie.Need-deal-again-2 Inv-loop μ-loop Inv-deal μ-deal
 deal-again-2 c =
     let k = c .before in
-    (walk-join _ _ _ _ _ _ _ _ (day-begun k .deal .inv .0) (k .loop .inv .0), k .loop .inv .3, k .loop .inv .4, k .loop .inv .5, k .loop .inv .6)
+    (walk-join _ _ _ _ _ _ _ _ (day-begun k .deal .inv .0) (k .loop .inv .0), k .loop .inv .3, k .loop .inv .4, k .loop .inv .5, k .loop .inv .6, (λ s f. k .loop .inv .7 s (day-begun k .deal .inv .5 s f)))
 
 row-at-requires-2 : tie.Need-row-at-requires-2 Inv-loop μ-loop Inv-deal μ-deal
 row-at-requires-2 c κs = omega arith
@@ -204,21 +207,16 @@ put-piece-requires c κs =
 add-dealt : tie.Need-add-dealt Inv-loop μ-loop Inv-deal μ-deal
 add-dealt c = omega arith
 
-lowered-by-requires-2 : tie.Need-lowered-by-requires-2 Inv-loop μ-loop Inv-deal μ-deal
-lowered-by-requires-2 c κs =
-    let s = c .before .before .before .before in
-    record {
-      enough = rw (c .before .before .before .before .share-of .ensures) (share-open _ _ _);
-      sized = rw (c .before .before .before .before .before .row-at2 .ensures) (here-sized _ _ (turn s .loop .inv .0 .stands) (in-table s));
-    }
-
-put-row-requires-2 : tie.Need-put-row-requires-2 Inv-loop μ-loop Inv-deal μ-deal
-put-row-requires-2 c κs =
-    let s = c .before .before .before .before .before in
-    (turn s .loop .inv .3, omega (arith, turn s .loop .inv .0 .stands .few, in-table s))
+lower-requires-2 : tie.Need-lower-requires-2 Inv-loop μ-loop Inv-deal μ-deal
+lower-requires-2 c κs =
+    let s = c .before .before .before .before in (
+      turn s .loop .inv .3,
+      omega (arith, turn s .loop .inv .0 .stands .few, in-table s),
+      record { enough = rw (own-share s) (share-open _ _ _); sized = here-sized _ _ (turn s .loop .inv .0 .stands) (in-table s) },
+    )
 
 sub-left : tie.Need-sub-left Inv-loop μ-loop Inv-deal μ-deal
-sub-left c = rw (c .before .before .before .before .before .before .share-of .ensures) (share-left _ _ _)
+sub-left c = rw (c .before .before .before .before .before .share-of .ensures) (share-left _ _ _)
 
 add-i : tie.Need-add-i Inv-loop μ-loop Inv-deal μ-deal
 add-i c = omega arith
@@ -233,40 +231,48 @@ loop-again c =
     let within = in-table (c .before) in
     let more = walk-next _ _ _ _ _ _ _ (state (day-begun a .before) (c .if3 .rows) (c .if3 .sheet) (c .if3 .dealt) (c .if3 .left) (a .loop .i + 1)) (a .loop .inv .0) within in (
       ⊎-elim
-          (λ w. more (stepped-some _ _ _ _ _ _ _ _ _ share (w .0 .taken) (w .4 .ensures ∙ ap (loweredBy _ _) (c .before .before .row-at2 .ensures)) refl (omega (arith, a .loop .inv .0 .stands, within)) (w .10) refl (ap rowsOf (w .7) ∙ w .5 .ensures .0) (ap (piecesOf _) (w .8) ∙ w .2 .ensures .0 _) (w .9)))
-          (λ w. more (stepped-none _ _ _ _ _ _ (share ∙ omega (arith, w .0 .left)) (w .4) refl (ap rowsOf (w .1)) (ap (piecesOf _) (w .2)) (w .3)))
+          (λ w. more (stepped-some _ _ _ _ _ _ _ _ share (w .0 .taken) refl (omega (arith, a .loop .inv .0 .stands, within)) (w .9) refl (ap rowsOf (w .6) ∙ w .4 .ensures .0) (ap piecesOf (w .7) ∙ w .2 .ensures .pieces) (w .8)))
+          (λ w. more (stepped-none _ _ _ _ _ _ (share ∙ omega (arith, w .0 .left)) (w .4) refl (ap rowsOf (w .1)) (ap piecesOf (w .2)) (w .3)))
           (c .if3 .came),
       omega arith,
       λ e. absurd (omega arith),
-      ⊎-elim (λ w. ap length (w .7) ∙ w .5 .ensures .1) (λ w. ap length (w .1) ∙ a .loop .inv .3) (c .if3 .came),
-      ⊎-elim (λ w. ap length (w .8) ∙ w .2 .ensures .1) (λ w. ap length (w .2) ∙ a .loop .inv .4) (c .if3 .came),
+      ⊎-elim (λ w. ap length (w .6) ∙ w .4 .ensures .1) (λ w. ap length (w .1) ∙ a .loop .inv .3) (c .if3 .came),
+      ⊎-elim (λ w. ap length (w .7) ∙ w .2 .ensures .size) (λ w. ap length (w .2) ∙ a .loop .inv .4) (c .if3 .came),
       ⊎-elim
-          (λ w. closed-taken _ _ _ _ _ _ _ _ (ap rowsOf (w .7) ∙ w .5 .ensures .0) (w .4 .ensures ∙ ap (loweredBy _ _) (c .before .before .row-at2 .ensures)) (own-share (c .before)) (omega (arith, w .6 .left)) (omega (arith, a .loop .inv .0 .stands, within)) (a .loop .inv .5))
+          (λ w. closed-taken _ _ _ _ _ _ _ (ap rowsOf (w .6) ∙ w .4 .ensures .0) (own-share (c .before)) (omega (arith, w .5 .left)) (omega (arith, a .loop .inv .0 .stands, within)) (a .loop .inv .5))
           (λ w. closed-passed _ _ _ _ _ _ (ap rowsOf (w .1)) (own-share (c .before)) (omega (arith, w .0 .left)) (a .loop .inv .6) (a .loop .inv .5))
           (c .if3 .came),
-      ⊎-elim (λ w. omega (arith, w .10, w .6 .left)) (λ w. omega (arith, w .4, a .loop .inv .6)) (c .if3 .came),
+      ⊎-elim (λ w. omega (arith, w .9, w .5 .left)) (λ w. omega (arith, w .4, a .loop .inv .6)) (c .if3 .came),
+      ⊎-elim
+          (λ w. stays-piece (day-begun a .deal .dealt) _ (a .loop .dealt) _ (a .loop .inv .7) _ _ _ _ (omega (arith, a .loop .inv .0 .stands, within)) (a .loop .inv .4) (w .2 .ensures) (w .7) (w .8))
+          (λ w. stays-same (day-begun a .deal .dealt) _ (a .loop .dealt) _ (a .loop .inv .7) _ _ (w .2) (w .3))
+          (c .if3 .came),
     )
 
 returns : tie.Need-returns Inv-loop μ-loop Inv-deal μ-deal
 returns c =
     let d = c .before in
+    let out = dealt-out d (d .deal .rows) (d .deal .sheet) (d .deal .dealt) (d .deal .left) (d .deal .i) (d .deal .inv .0 .stands) (walk-over _ _ _ _ _ _ _ (so-far d) (c .deal-test .left)) in
     record {
-      dealt = dealt-out d (d .deal .rows) (d .deal .sheet) (d .deal .dealt) (d .deal .left) (d .deal .i) (d .deal .inv .0 .stands) (walk-over _ _ _ _ _ _ _ (so-far d) (c .deal-test .left));
+      dealt = out;
+      filled = handed-fill _ _ _ _ _ _ out (d .deal .inv .5 _ refl);
       rows-length = d .deal .inv .1;
       sheet-length = d .deal .inv .2;
       within = omega (arith, d .deal .inv .0 .stands .within);
-      closed = rw (d .before .before .before .before .row-at .ensures) at (d .deal .inv .3);
+      closed = rw (d .before .before .before .row-at .ensures) at (d .deal .inv .3);
     }
 
 returns-2 : tie.Need-returns-2 Inv-loop μ-loop Inv-deal μ-deal
 returns-2 c =
     let d = c .before .before .before .before .before in
+    let out = dealt-out d (d .deal .rows) (d .deal .sheet) (d .deal .dealt) (d .deal .left) (d .deal .i) (d .deal .inv .0 .stands) (walk-late _ _ _ _ _ _ _ (so-far d) (c .before .before .before .before .deal-test .taken) (omega (arith, c .if1 .taken, c .before .before .settlement-at .ensures))) in
     record {
-      dealt = dealt-out d (d .deal .rows) (d .deal .sheet) (d .deal .dealt) (d .deal .left) (d .deal .i) (d .deal .inv .0 .stands) (walk-late _ _ _ _ _ _ _ (so-far d) (c .before .before .before .before .deal-test .taken) (omega (arith, c .if1 .taken, c .before .before .settlement-at .ensures)));
+      dealt = out;
+      filled = handed-fill _ _ _ _ _ _ out (d .deal .inv .5 _ refl);
       rows-length = d .deal .inv .1;
       sheet-length = d .deal .inv .2;
       within = omega (arith, d .deal .inv .0 .stands .within);
-      closed = rw (d .before .before .before .before .row-at .ensures) at (d .deal .inv .3);
+      closed = rw (d .before .before .before .row-at .ensures) at (d .deal .inv .3);
     }
 
 returns-3 : tie.Need-returns-3 Inv-loop μ-loop Inv-deal μ-deal
@@ -275,17 +281,21 @@ returns-3 c =
     let d = day-begun a in
     let share = due-share-is _ _ _ _ (is-due (dealt-share c)) ∙ sym (own-share (dealt-share c)) in
     let within = in-table (dealt-share c) in
-    let last = state (d .before) (c .before .put-row2 .last .0) (c .before .before .before .before .put-piece .last .0) (a .loop .dealt + 1) (a .loop .left - dealt-share c .share-of .result) (a .loop .i + 1) in
+    let last = state (d .before) (c .before .lower2 .last .0) (c .before .before .before .put-piece .last .0) (a .loop .dealt + 1) (a .loop .left - dealt-share c .share-of .result) (a .loop .i + 1) in
     let w =
     walk-join _ _ _ _ _ _ _ _ (so-far d)
     (walk-next _ _ _ _ _ _ _ last (a .loop .inv .0) within
-    (stepped-some _ _ _ _ _ _ _ _ _ share (c .before .before .before .before .before .before .if3 .taken) (c .before .before .lowered-by2 .ensures ∙ ap (loweredBy _ _) (dealt-share c .before .row-at2 .ensures)) refl (omega (arith, a .loop .inv .0 .stands, within)) refl refl (c .before .put-row2 .ensures .0) (c .before .before .before .before .put-piece .ensures .0 _) refl)) in
+    (stepped-some _ _ _ _ _ _ _ _ share (c .before .before .before .before .before .if3 .taken) refl (omega (arith, a .loop .inv .0 .stands, within)) refl refl (c .before .lower2 .ensures .0) (c .before .before .before .put-piece .ensures .pieces) refl)) in
+    let out = dealt-out d _ _ _ _ _ (w .stands) (walk-done _ _ _ _ _ _ _ w (c .if4 .taken)) in
+    let put = c .before .before .before .put-piece in
+    let room : a .loop .dealt < PLACES = omega (arith, a .loop .inv .0 .stands, within) in
     record {
-      dealt = dealt-out d _ _ _ _ _ (w .stands) (walk-done _ _ _ _ _ _ _ w (c .if4 .taken));
-      rows-length = c .before .put-row2 .ensures .1;
-      sheet-length = c .before .before .before .before .put-piece .ensures .1;
+      dealt = out;
+      filled = handed-fill _ _ _ _ _ _ out (piece-fills _ _ _ _ (a .loop .inv .7 _ (d .deal .inv .5 _ refl)) _ room (a .loop .inv .4) (put .ensures));
+      rows-length = c .before .lower2 .ensures .1;
+      sheet-length = put .ensures .size;
       within = omega (arith, a .loop .inv .0 .stands .within);
-      closed = closed-changed _ (a .loop .left) _ _ _ _ _ _ (d .before .before .before .before .row-at .ensures) (c .before .put-row2 .ensures .0) refl (a .loop .inv .5);
+      closed = closed-changed _ (a .loop .left) _ _ _ _ _ _ (d .before .before .before .row-at .ensures) (c .before .lower2 .ensures .0) refl (a .loop .inv .5);
     }
 
 pub deal-spec : {M : Type 1} → statement M
@@ -299,8 +309,7 @@ deal-spec =
     sub-place
     cast-place
     row-at-requires
-    lowered-by-requires
-    put-row-requires
+    lower-requires
     deal-holds
     settlement-at-requires
     loop-holds
@@ -315,8 +324,7 @@ deal-spec =
     cast-put-piece
     put-piece-requires
     add-dealt
-    lowered-by-requires-2
-    put-row-requires-2
+    lower-requires-2
     sub-left
     add-i
     loop-less

@@ -67,7 +67,7 @@ returns-3 c =
     let some : 0 < length events = omega (arith, k .events-in .ensures, y .before .if1 .left) in
     λ b opens.
     last-shown b events (now (a .page)) (l .before-last .result) _ (e .last-event .result) _ _ _ _ _ _ _ _ some (y .if2 .left) (p .blank-pieces .ensures .1) (l .before-last .ensures .1 b opens)
-    (e .last-event .ensures) (k .events-in .ensures) (v .step-by-value .ensures .0) (n .numbers-of .ensures .0) (w .answer-lines .ensures)
+    (e .last-event .ensures) (k .events-in .ensures) (v .step-by-value .ensures .0) (n .numbers-of .ensures .1) (w .answer-lines .ensures)
 
 pub last-lines-spec : {M : Type 1} → statement M
 last-lines-spec =

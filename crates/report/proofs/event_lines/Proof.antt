@@ -3,7 +3,6 @@ use native.Mathlib.Omega.{arith}
 use Prim.Native.Nat.{_+_, _*_, _≤_, min}
 use mathlib.Core.Path.{_≡_}
 use lib.ListN.{length, take}
-use Rattle.plain.specs.declared.Manner.the-variants.{Delivered}
 use Rattle.pieces.specs.Sheet.{piecesOf}
 use Rattle.report.specs.Lines.{LINE, eventLine, eventLines, pieceLines}
 use Rattle.report.specs.Pages.{none-wrote, put-wrote, wrote-put, wrote-lent, put-length}
@@ -23,7 +22,7 @@ mul-if1 c = search needs
 returns : tie.Need-returns
 returns c =
     let a = c .before .before .before .args in
-    λ m. none-wrote (LINE * (1 + min (a .count) 1024)) (eventLines (a .number) (a .refusal) (a .quantity) (take (a .count) (piecesOf m (a .sheet .now)))) (a .page .now) (omega (arith, c .if1 .taken))
+    none-wrote (LINE * (1 + min (a .count) 1024)) (eventLines (a .number) (a .refusal) (a .quantity) (take (a .count) (piecesOf (a .sheet .now)))) (a .page .now) (omega (arith, c .if1 .taken))
 
 event-line-requires : tie.Need-event-line-requires
 event-line-requires c κs = search needs
@@ -41,7 +40,7 @@ piece-lines-requires : tie.Need-piece-lines-requires
 piece-lines-requires c κs = search needs
 
 add-result : tie.Need-add-result
-add-result c = omega (arith, c .before .before .piece-lines .ensures Delivered .most)
+add-result c = omega (arith, c .before .before .piece-lines .ensures .most)
 
 same-length : tie.Need-same-length
 same-length c = search needs
@@ -58,10 +57,9 @@ returns-2 c =
     let enough : LINE * (1 + min (a .count) 1024) ≤ length (a .page .now) = omega (arith, e .if1 .left, e .before .at-most .ensures) in
     let first = wrote-put LINE text (a .page .now) (v .last .0) (v .result) (omega arith) (v .ensures) in
     let long : length (v .last .0) ≡ length (a .page .now) = put-length text (a .page .now) (v .last .0) (v .result) first (omega (arith, v .ensures .most)) in
-    λ m.
-    let more = take (a .count) (piecesOf m (a .sheet .now)) in
-    let all = wrote-lent text (a .page .now) (v .last .0) (v .result) first (LINE * min (a .count) 1024) (pieceLines more) (d .last .0) (d .result) (omega (arith, v .ensures .most)) (d .ensures m) in
-    put-wrote (LINE * (1 + min (a .count) 1024)) (eventLines (a .number) (a .refusal) (a .quantity) more) (a .page .now) _ _ enough (omega (arith, all .bytes, v .ensures .most, d .ensures m .most)) all
+    let more = take (a .count) (piecesOf (a .sheet .now)) in
+    let all = wrote-lent text (a .page .now) (v .last .0) (v .result) first (LINE * min (a .count) 1024) (pieceLines more) (d .last .0) (d .result) (omega (arith, v .ensures .most)) (d .ensures) in
+    put-wrote (LINE * (1 + min (a .count) 1024)) (eventLines (a .number) (a .refusal) (a .quantity) more) (a .page .now) _ _ enough (omega (arith, all .bytes, v .ensures .most, d .ensures .most)) all
 
 pub event-lines-spec : {M : Type 1} → statement M
 event-lines-spec =

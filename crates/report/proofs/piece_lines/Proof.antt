@@ -1,31 +1,19 @@
 -- `report::piece_lines` meets its contract. The invariant: the lines of the pieces passed are put, in at most 80 bytes each.
 use native.Mathlib.Omega.{arith}
 use Prim.Native.Nat.{ℕ, _+_, _-_, _*_, _≤_, _<_, min}
-use mathlib.Core.Path.{_≡_, ap, sym, _∙_}
-use mathlib.Core.List.{List}
+use mathlib.Core.Path.{_≡_, ap, _∙_}
 use lib.ListN.{length, take}
 use Rattle.laws.specs.Lists.{each}
-use Rattle.plain.specs.declared.Manner.{Manner}
-use Rattle.plain.specs.declared.Manner.the-variants.{Delivered}
-use Rattle.plain.specs.declared.Piece.{Piece}
-use Rattle.pieces.specs.Sheet.{piecesOf, unpriced}
-use Rattle.pieces.proofs.Cells.{length-pieces, in-manner}
-use Rattle.report.specs.Lines.{LINE, pieceLine, pieceLines, lines-of-any-manner}
+use Rattle.pieces.specs.Sheet.{piecesOf, noPiece}
+use Rattle.pieces.proofs.Cells.{length-pieces}
+use Rattle.report.specs.Lines.{LINE, pieceLine, pieceLines}
 use Rattle.report.specs.Pages.{none-wrote}
-use Rattle.report.proofs.Blocks.{Lined, none-lined, lined-room, lined-next, lined-length, all-lined, take-map, take-min}
+use Rattle.report.proofs.Blocks.{Lined, none-lined, lined-room, lined-next, lined-length, all-lined, take-min}
 use Rattle.report.proofs.piece_lines.Statement.{statement}
 use Rattle.report.proofs.piece_lines.Tie as tie
 
--- the pieces, in the manner that the loop reads them in
-abbrev read : List ℕ → List Piece
-read sheet = piecesOf Delivered sheet
-
--- their lines are those of the pieces in any manner
-any-manner : (m : Manner) (count : ℕ) (sheet : List ℕ) → pieceLines (take count (read sheet)) ≡ pieceLines (take count (piecesOf m sheet))
-any-manner m count sheet = sym (rw (in-manner m Delivered sheet, take-map, lines-of-any-manner))
-
 abbrev Inv-loop : tie.InvT-loop
-Inv-loop page₀ sheet count stop at₀ i₀ page at i = Lined pieceLine (read sheet) stop page₀ page at i
+Inv-loop page₀ sheet count stop at₀ i₀ page at i = Lined pieceLine (piecesOf sheet) stop page₀ page at i
 
 abbrev μ-loop : tie.MeasureT-loop
 μ-loop page₀ sheet count stop at₀ i₀ page at i = stop - i
@@ -39,7 +27,7 @@ mul-if1 c = omega arith
 returns : tie.Need-returns Inv-loop μ-loop
 returns c =
     let a = c .before .before .before .args in
-    λ m. none-wrote (80 * min (a .count) 1024) (pieceLines (take (a .count) (piecesOf m (a .sheet .now)))) (a .page .now) (omega (arith, c .if1 .taken))
+    none-wrote (80 * min (a .count) 1024) (pieceLines (take (a .count) (piecesOf (a .sheet .now)))) (a .page .now) (omega (arith, c .if1 .taken))
 
 loop-holds : tie.Need-loop-holds Inv-loop μ-loop
 loop-holds c = none-lined _ _ _ _
@@ -82,10 +70,10 @@ loop-again c =
     let e = n .before .before in
     let a = e .before .before .before .args in
     let d = c .before .before .piece-line in
-    let all = read (a .sheet .now) in
-    let i : k .i < length all = omega (arith, length-pieces Delivered (a .sheet .now), e .before .at-most .ensures) in
+    let all = piecesOf (a .sheet .now) in
+    let i : k .i < length all = omega (arith, length-pieces (a .sheet .now), e .before .at-most .ensures) in
     let wrote = rw (r .piece-at .ensures) at (d .ensures) in
-    lined-next _ _ _ _ (e .if1 .left) _ _ _ (k .inv) (unpriced Delivered 0 0 0) _ _ (n .loop-test .taken) i wrote
+    lined-next _ _ _ _ (e .if1 .left) _ _ _ (k .inv) noPiece _ _ (n .loop-test .taken) i wrote
 
 same-length : tie.Need-same-length Inv-loop μ-loop
 same-length c = lined-length _ _ _ _ (c .before .before .if1 .left) _ _ _ (c .before .loop .inv)
@@ -98,9 +86,8 @@ returns-2 c =
     let a = e .before .before .before .args in
     let sheet = a .sheet .now in
     let all : k .i ≡ min (a .count) 1024 = omega (arith, k .inv .within, c .loop-test .left, e .before .at-most .ensures) in
-    let some : each pieceLine (take (k .i) (read sheet)) ≡ pieceLines (take (a .count) (read sheet)) = ap (each pieceLine) (ap (λ (n : ℕ). take n (read sheet)) all ∙ take-min (read sheet) (a .count) 1024 (length-pieces Delivered sheet)) in
-    λ m.
-    rw (← e .before .at-most .ensures) (all-lined _ _ _ _ (e .if1 .left) _ _ _ (k .inv) (pieceLines (take (a .count) (piecesOf m sheet))) (some ∙ any-manner m (a .count) sheet))
+    let some : each pieceLine (take (k .i) (piecesOf sheet)) ≡ pieceLines (take (a .count) (piecesOf sheet)) = ap (each pieceLine) (ap (λ (n : ℕ). take n (piecesOf sheet)) all ∙ take-min (piecesOf sheet) (a .count) 1024 (length-pieces sheet)) in
+    rw (← e .before .at-most .ensures) (all-lined _ _ _ _ (e .if1 .left) _ _ _ (k .inv) (pieceLines (take (a .count) (piecesOf sheet))) some)
 
 pub piece-lines-spec : {M : Type 1} → statement M
 piece-lines-spec =

@@ -19,7 +19,7 @@ returns : tie.Need-returns
 returns c =
     let w = c .before .before in
     let q = w .before .before in
-    λ m. rw (← q .before .number-of .ensures, ← q .quantity-of .ensures) (w .event-lines .ensures m)
+    rw (← q .before .number-of .ensures, ← q .quantity-of .ensures) (w .event-lines .ensures)
 
 pub answer-lines-spec : {M : Type 1} → statement M
 answer-lines-spec =

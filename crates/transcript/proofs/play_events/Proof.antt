@@ -1,5 +1,5 @@
 -- `transcript::play_events` meets its contract. The loop's invariant: the page has the text of the events from the first one up to the next.
-use Prim.Native.Nat.{_+_, _-_, _≤_}
+use Prim.Native.Nat.{_+_, _-_, _≤_, _<_}
 use native.Mathlib.Omega.{arith}
 use mathlib.Core.Path.{_≡_, refl, ap, subst}
 use mathlib.Core.Logic.{⊎-elim}
@@ -8,16 +8,18 @@ use denote.Ref.{now}
 use borrow.Author.Needs.{needs}
 use borrow.Author.Tests.{leb-true, leb-false}
 use Rattle.laws.specs.Limits.{SHEET-CELLS}
-use Rattle.plain.specs.declared.Manner.the-variants.{Delivered}
+use Rattle.files.specs.File.{eventsOf}
+use Rattle.plain.specs.Histories.{callsOf}
 use Rattle.machine.specs.declared.Answered.{Answered}
 use Rattle.machine.specs.declared.Core.{Core}
 use Rattle.ledger.specs.Posts.{ledgerOf}
-use Rattle.machine.specs.View.{Numbers, numbers, Held}
+use Rattle.machine.specs.View.{Numbers, numbers, bookOf, Held}
 use Rattle.calls.specs.Stepping.{Stepped}
 use Rattle.calls.proofs.Stepping.{stepped-bare, stepped-on}
 use Rattle.report.specs.Pages.{lent}
-use Rattle.transcript.specs.Playing.{BLOCK, PlayedOn}
-use Rattle.transcript.proofs.Showing.{Reached, none-reached, one-reached, room-left, played-on, some-taken, shown}
+use Rattle.transcript.specs.Playing.{BLOCK, PlayedOn, between}
+use Rattle.replay.specs.Replay.{sheetAfter}
+use Rattle.transcript.proofs.Showing.{Reached, none-reached, one-reached, room-left, played-on, some-taken, shown, none-filled, more-filled}
 use Rattle.transcript.proofs.Showing as showing
 use Rattle.transcript.proofs.play_events.Statement.{statement}
 use Rattle.transcript.proofs.play_events.Tie as tie
@@ -26,6 +28,7 @@ abbrev Inv-loop : tie.InvT-loop
 Inv-loop page₀ file rows₀ trades₀ awards₀ counts₀ starts₀ words₀ credits₀ debits₀ sheet₀ from count room last₀ next₀ used₀ page rows trades awards counts starts words credits debits sheet last next used =
     (Reached file (last₀ .core) (numbers rows₀ trades₀ awards₀ counts₀ starts₀ words₀ (ledgerOf credits₀ debits₀)) from next page₀ page (last .core) (numbers rows trades awards counts starts words (ledgerOf credits debits)) used)
     × (length sheet ≡ SHEET-CELLS)
+    × (sheet ≡ sheetAfter (bookOf (last₀ .core) (numbers rows₀ trades₀ awards₀ counts₀ starts₀ words₀ (ledgerOf credits₀ debits₀))) (callsOf (between file from next)) sheet₀)
 
 abbrev μ-loop : tie.MeasureT-loop
 μ-loop page₀ file rows₀ trades₀ awards₀ counts₀ starts₀ words₀ credits₀ debits₀ sheet₀ from count room last₀ next₀ used₀ page rows trades awards counts starts words credits debits sheet last next used = count - next
@@ -55,7 +58,7 @@ unplayed-requires c κs = search needs
 loop-holds : tie.Need-loop-holds Inv-loop μ-loop
 loop-holds c =
     let s = c .before .before .before .before in
-    (none-reached _ _ _ _ _ (rw (c .unplayed .ensures) (s .pre .0)), s .pre .1)
+    (none-reached _ _ _ _ _ (rw (c .unplayed .ensures) (s .pre .0)), s .pre .1, none-filled (s .args .file .now) _ (s .args .from) _)
 
 add-if1 : tie.Need-add-if1 Inv-loop μ-loop
 add-if1 c = omega (arith, c .before .loop .inv .0 .fits)
@@ -181,7 +184,7 @@ answer-lines-requires c κs = search needs
 add-used : tie.Need-add-used Inv-loop μ-loop
 add-used c =
     let w = c .before .before in
-    omega (arith, w .answer-lines .ensures Delivered .most, add-if1 (w .before .before .before .before .before .before) .fits)
+    omega (arith, w .answer-lines .ensures .most, add-if1 (w .before .before .before .before .before .before) .fits)
 
 loop-less : tie.Need-loop-less Inv-loop μ-loop
 loop-less c = omega (arith, c .before .before .before .before .before .before .before .before .loop-test .taken)
@@ -193,10 +196,12 @@ loop-again c =
     let e = m .before in
     let t = e .before in
     let k = turn e in
-    let d = stepped m in (
+    let d = stepped m in
+    let inside : k .loop .next < length (eventsOf (now (k .before .before .before .before .before .args .file))) = omega (arith, k .before .before .events-in .ensures, t .before .loop-test .taken) in (
       one-reached _ _ _ _ (k .loop .next) _ _ _ _ (m .match .last .core) _ (numbers (m .match .rows) (m .match .trades) (m .match .awards) (m .match .counts) (m .match .starts) (m .match .words) (ledgerOf (m .match .credits) (m .match .debits))) (e .event-at .result) _ (k .loop .used) _ (k .loop .inv .0)
-          (omega (arith, k .before .before .events-in .ensures, t .before .loop-test .taken)) (e .event-at .ensures) refl (room-taken t) (shown _ _ _ _ _ _ _ _ _ _ _ _ _ (room-lent t) d (w .answer-lines .ensures)),
+          inside (e .event-at .ensures) refl (room-taken t) (shown _ _ _ _ _ _ _ _ _ _ _ _ _ (room-lent t) d (w .answer-lines .ensures)),
       d .places,
+      more-filled _ _ _ _ (k .loop .next) (e .event-at .result) (k .before .before .before .before .before .args .sheet .now) _ _ (k .loop .inv .0 .low) inside (e .event-at .ensures) (k .loop .inv .0 .played' .book) (k .loop .inv .2) (d .filled),
     )
 
 same-length : tie.Need-same-length Inv-loop μ-loop
@@ -217,6 +222,9 @@ returns c =
           (λ w. omega (arith, first .before .events-in .ensures, w .left))
           (c .before .loop-test .came))),
       k .loop .inv .1,
+      subst (λ (b : Core). k .loop .sheet ≡ sheetAfter (bookOf b (numbers (s .args .rows .now) (s .args .trades .now) (s .args .awards .now) (s .args .counts .now) (s .args .starts .now) (s .args .words .now) (ledgerOf (s .args .credits .now) (s .args .debits .now)))) (callsOf (between (now (s .args .file)) (s .args .from) (k .loop .next))) (now (s .args .sheet)))
+          (ap (λ (r : Answered). r .core) (first .unplayed .ensures))
+          (k .loop .inv .2),
     )
 
 pub play-events-spec : {M : Type 1} → statement M

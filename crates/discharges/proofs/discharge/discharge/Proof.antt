@@ -50,6 +50,7 @@ returns c = λ late asks.
     let low = w .deal .ensures .dealt .positions in
     record {
       dealt = w .deal .ensures .dealt;
+      filled = w .deal .ensures .filled;
       follows =
           follows-after _ _ _ _ _ _ _ _ _ _ f _ low _ _ (starts-moved _ _ _ _ _ _ _ _ _ _ f _ low _ (w .deal .ensures .within) (w .deal .ensures .closed))
           (d .discharged .ensures .0 _ _ _ (f .follows .failing) (units-of _ _ _ _ _ _ _ _ _ _ f) (lowered-late _ _ _ _ _ _ _ _ _ _ f _ low))

@@ -19,7 +19,7 @@ post-cash-requires c κs =
     let x = c .before .before .before .before in
     let s = x .before .before .before .before .before .before in
     let dealt = x .discharge .ensures _ (settling (s .args .core) (entry s) (s .args .c) (s .pre .0 .2) _ _ _ (s .pre .1) _ (s .pre .2)) in
-    (settleable (s .args .core) (entry s) (s .args .c) (s .pre .0 .2) _ _ _ (s .pre .1) _ _ _ _ _ _ dealt, dealt .sheet-length)
+    (settleable (s .args .core) (entry s) (s .args .c) (s .pre .0 .2) _ _ _ (s .pre .1) _ _ _ _ _ _ _ dealt, dealt .sheet-length)
 
 done-requires : tie.Need-done-requires
 done-requires c κs = search needs
@@ -32,7 +32,7 @@ returns c =
     λ trades awards t.
     let asked = settling _ (numbers _ trades awards _ _ _ _) _ t _ _ _ (s .pre .1) _ (s .pre .2) in
     rw (c .done .ensures)
-    (cash-done _ (numbers _ trades awards _ _ _ _) _ t _ _ _ (s .pre .1) _ _ _ _ _ _ (x .discharge .ensures _ asked) _ _ _ (m .post-cash .ensures .0) (m .post-cash .ensures .1) (m .post-cash .ensures .2))
+    (cash-done _ (numbers _ trades awards _ _ _ _) _ t _ _ _ (s .pre .1) _ _ _ _ _ _ _ (x .discharge .ensures _ asked) _ _ (m .post-cash .ensures .0) (m .post-cash .ensures .1))
 
 pub settle-spec : {M : Type 1} → statement M
 settle-spec =

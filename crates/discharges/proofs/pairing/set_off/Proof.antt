@@ -25,10 +25,11 @@ returns : tie.Need-returns
 returns c = λ held starts late asks.
     let w = c .before .before .before in
     let f = asks .falling in
-    let out = set-off-out _ held _ _ _ _ _ (f .fits .held) (w .set-off .ensures) in
+    let out = set-off-out _ _ held _ _ _ _ _ (f .fits .held) (w .set-off .ensures) in
     let low = out .positions in
     record {
       dealt = out;
+      filled = w .set-off .ensures .filled;
       follows =
           follows-after _ _ _ _ _ _ _ _ _ _ f _ low _ _ (starts-kept _ _ _ _ _ _ _ _ _ _ f _ low)
           (c .discharged .ensures .0 _ _ _ (f .follows .failing) (units-of _ _ _ _ _ _ _ _ _ _ f) (lowered-late _ _ _ _ _ _ _ _ _ _ f _ low))
