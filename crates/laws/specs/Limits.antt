@@ -54,16 +54,25 @@ MOST-NETTED = 512000000
 abbrev pub EVENTS : ℕ
 EVENTS = 2048
 
--- how many numbers each lent table of the machine's book has: twelve a position, seven a trade, five an award, five a piece, and one for each security
--- and account, in which the late open shorts are counted
+-- how many numbers a row of each lent table of the machine's book has, and all of its rows; the late open shorts are counted in one number for each security
+-- and account
+abbrev pub POSITION-WIDTH : ℕ
+POSITION-WIDTH = 12
+
 abbrev pub POSITION-CELLS : ℕ
-POSITION-CELLS = 12 * POSITIONS
+POSITION-CELLS = POSITION-WIDTH * POSITIONS
+
+abbrev pub TRADE-WIDTH : ℕ
+TRADE-WIDTH = 7
 
 abbrev pub TRADE-CELLS : ℕ
-TRADE-CELLS = 7 * TRADES
+TRADE-CELLS = TRADE-WIDTH * TRADES
+
+abbrev pub AWARD-WIDTH : ℕ
+AWARD-WIDTH = 5
 
 abbrev pub AWARD-CELLS : ℕ
-AWARD-CELLS = 5 * AWARDS
+AWARD-CELLS = AWARD-WIDTH * AWARDS
 
 abbrev pub PIECE-WIDTH : ℕ
 PIECE-WIDTH = 5

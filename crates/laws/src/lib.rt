@@ -36,13 +36,18 @@ pub const MOST_PRICE: u32 = 10_000_000;
 
 pub const EVENTS: usize = 2_048;
 
-// How many numbers each lent table has: twelve a position, seven a trade, five an award, five a piece, and one for each security and account, in which
-// the late open shorts are counted.
-pub const POSITION_CELLS: usize = 12 * POSITIONS;
+// How many numbers a row of each lent table has, and all of its rows; the late open shorts are counted in one number for each security and account.
+pub const POSITION_WIDTH: usize = 12;
 
-pub const TRADE_CELLS: usize = 7 * TRADES;
+pub const POSITION_CELLS: usize = POSITION_WIDTH * POSITIONS;
 
-pub const AWARD_CELLS: usize = 5 * AWARDS;
+pub const TRADE_WIDTH: usize = 7;
+
+pub const TRADE_CELLS: usize = TRADE_WIDTH * TRADES;
+
+pub const AWARD_WIDTH: usize = 5;
+
+pub const AWARD_CELLS: usize = AWARD_WIDTH * AWARDS;
 
 pub const PIECE_WIDTH: usize = 5;
 

@@ -3,7 +3,7 @@ use Prim.Native.Nat.{ℕ, _+_, _%_}
 use mathlib.Core.List.{List}
 use lib.ListN.{getD}
 use lib.Dec.{eqb}
-use Rattle.laws.specs.Limits.{AWARDS, POSITIONS, TRADES}
+use Rattle.laws.specs.Limits.{AWARD-WIDTH, AWARDS, POSITION-WIDTH, POSITIONS, TRADE-WIDTH, TRADES}
 use Rattle.cells.specs.Table.{tableFrom}
 pub use Rattle.cells.specs.Table.{bitOf}
 use Rattle.events.specs.declared.Trade.{Trade}
@@ -56,10 +56,10 @@ noTrade = record { seller = 0; buyer = 0; security = 0; quantity = 0; price = 0;
 
 -- the 1,024 positions, 512 trades and 256 awards
 unfoldable pub rowsOf : List ℕ → List Position
-rowsOf xs = tableFrom 12 POSITIONS rowFrom xs
+rowsOf xs = tableFrom POSITION-WIDTH POSITIONS rowFrom xs
 
 unfoldable pub tradesOf : List ℕ → List Trade
-tradesOf xs = tableFrom 7 TRADES tradeFrom xs
+tradesOf xs = tableFrom TRADE-WIDTH TRADES tradeFrom xs
 
 unfoldable pub awardsOf : List ℕ → List Award
-awardsOf xs = tableFrom 5 AWARDS awardFrom xs
+awardsOf xs = tableFrom AWARD-WIDTH AWARDS awardFrom xs
