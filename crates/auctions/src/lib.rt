@@ -1,4 +1,6 @@
 // An auction from its attempt over the offers to the award.
+mod refusal;
+
 ghost use Prim.Native.Nat.{ℕ, _<_};
 ghost use mathlib.Core.Path.{_≡_};
 ghost use mathlib.Core.List.{List};
@@ -8,6 +10,10 @@ ghost use Rattle.events.specs.declared.Event.the-variants as event;
 ghost use Rattle.plain.specs.Calls.{call};
 ghost use Rattle.machine.specs.Cores.{attemptedCore};
 ghost use Rattle.machine.specs.View.{Numbers, onRows, onAwards, onWords, Held, CalledBare};
+use crate::refusal::attempt_refusal;
+use crate::refusal::auction_refusal;
+use crate::refusal::award_refusal;
+use crate::refusal::offer_refusal;
 use events::Attempt;
 use events::Offer;
 use laws::AWARD_CELLS;
@@ -54,7 +60,7 @@ pub fn attempt(core: Core, rows: &[u32; POSITION_CELLS], a: Attempt) -> Answered
     let latest = latest_of(core.prices, p.security);
     let today = refusals::step_today(class, core.day, p);
     let marked = auction::is_marked(core.marks, a.position);
-    let number = refusals::attempt_refusal(
+    let number = attempt_refusal(
         p,
         core.day,
         today,
@@ -81,7 +87,7 @@ pub fn offer(
     requires { ⌜ ((others : Numbers) × Held core (onWords (onRows others (now rows)) (now words))) ⌝ }
     ensures { λ r. ⌜ ((others : Numbers) → Held core (onWords (onRows others (now (rows .entry))) (now (words .entry))) → CalledBare core (onWords (onRows others (now (rows .entry))) (now (words .entry))) (call (event.Offer o) 0) (r .core) (onWords (onRows others (now (rows .entry))) (now (words .entry))) (r .outcome) (r .pieces)) ⌝ }
 {
-    let first = refusals::offer_refusal(core.positions, core.auction.position, o);
+    let first = offer_refusal(core.positions, core.auction.position, o);
     if first != 0 {
         return refused(core, first);
     }
@@ -89,12 +95,7 @@ pub fn offer(
     let short = rows::row_at(rows, place);
     let word = failing::word_of(words, short.security);
     let fails = failing::is_failing(word, o.offerer);
-    let number = refusals::auction_refusal(
-        fails,
-        core.auction.ceiling,
-        core.auction.count,
-        o.price,
-    );
+    let number = auction_refusal(fails, core.auction.ceiling, core.auction.count, o.price);
     if number != 0 {
         return refused(core, number);
     }
@@ -117,7 +118,7 @@ pub fn award(
     requires { ⌜ ((others : Numbers) × Held core (onAwards (onRows others (now rows)) (now awards))) ⌝ }
     ensures { λ r. ⌜ ((others : Numbers) → Held core (onAwards (onRows others (now (rows .entry))) (now (awards .entry))) → CalledBare core (onAwards (onRows others (now (rows .entry))) (now (awards .entry))) (call (event.Award a) 0) (r .core) (onAwards (onRows others (now (rows .entry))) (now (awards .exit))) (r .outcome) (r .pieces)) ⌝ }
 {
-    let number = refusals::award_refusal(core.positions, core.auction.position, a.position);
+    let number = award_refusal(core.positions, core.auction.position, a.position);
     if number != 0 {
         return refused(core, number);
     }

@@ -11,10 +11,13 @@ ghost use Rattle.ledger.specs.Parts.{closeChargesOf};
 ghost use Rattle.machine.specs.Cores.{closedCore};
 ghost use Rattle.ledger.specs.Posts.{ledgerOf};
 ghost use Rattle.machine.specs.View.{Numbers, numbers, onRows, onAwards, onLedger, Held, CalledBare, Taken};
+ghost use Rattle.laws.specs.Refusals.{first};
+ghost use Rattle.plain.specs.Refusals.{closeReasons};
 use laws::ACCOUNTS;
 use laws::AWARD_CELLS;
 use laws::BusinessDay;
 use laws::COUNT_CELLS;
+use laws::LAST_DAY;
 use laws::POSITION_CELLS;
 use laws::SECURITIES;
 use laws::TRADE_CELLS;
@@ -22,6 +25,20 @@ use machine::Answered;
 use machine::Core;
 use machine::done;
 use machine::refused;
+use refusals::AUCTION;
+use refusals::NO_NEXT_DAY;
+
+fn close_refusal(auction: u16, day: BusinessDay) -> u8
+    ensures { λ r. ⌜ r ≡ first (closeReasons auction (day .0)) ⌝ }
+{
+    if 0 < auction {
+        return AUCTION;
+    }
+    if LAST_DAY <= day.0 {
+        return NO_NEXT_DAY;
+    }
+    0
+}
 
 // The accounts with the charges of a close, which go by the positions and awards as they are.
 fn fined(
@@ -78,7 +95,7 @@ pub fn close(
     requires { ⌜ ((starts : List ℕ) × Held core (numbers (now rows) (now trades) (now awards) (now counts) starts (now words) (ledgerOf (now credits) (now debits)))) ⌝ }
     ensures { λ r. ⌜ ((starts : List ℕ) → Held core (numbers (now (rows .entry)) (now (trades .entry)) (now (awards .entry)) (now (counts .entry)) starts (now (words .entry)) (ledgerOf (now (credits .entry)) (now (debits .entry)))) → CalledBare core (numbers (now (rows .entry)) (now (trades .entry)) (now (awards .entry)) (now (counts .entry)) starts (now (words .entry)) (ledgerOf (now (credits .entry)) (now (debits .entry)))) (call event.Close 0) (r .core) (numbers (now (rows .exit)) (now (trades .entry)) (now (awards .entry)) (now (counts .exit)) starts (now (words .exit)) (ledgerOf (now (credits .exit)) (now (debits .exit)))) (r .outcome) (r .pieces)) ⌝ }
 {
-    let number = refusals::close_refusal(core.auction.position, core.day);
+    let number = close_refusal(core.auction.position, core.day);
     if number != 0 {
         return refused(core, number);
     }

@@ -32,7 +32,7 @@ use Rattle.kept.proofs.Discharging.{awards-many, lookup-there, missing-number, 
 use Rattle.machine.specs.declared.Core.{Core}
 use Rattle.machine.specs.View.{Numbers, numbers, followed, followedIn, keptOf, bookOf, Held, Taken, CalledOn, Discharging, Discharged}
 use Rattle.machine.proofs.Returns.{refused-on, taken-on}
-use Rattle.discharges.proofs.Walking.{row-is, discharging, filled-read}
+use Rattle.machine.proofs.Walking.{row-is, discharging, filled-read}
 use Rattle.plain.proofs.Numbered.{nth-take, nth-all}
 
 -- the award of a number that is in use, as its row has it

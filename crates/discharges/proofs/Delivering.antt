@@ -21,7 +21,7 @@ use Rattle.kept.proofs.Discharging.{lookup-there, missing-number, delivery-spli
 use Rattle.machine.specs.declared.Core.{Core}
 use Rattle.machine.specs.View.{Numbers, numbers, followed, followedIn, keptOf, bookOf, Held, CalledOn, Discharging, Discharged}
 use Rattle.machine.proofs.Returns.{refused-on, taken-on}
-use Rattle.discharges.proofs.Walking.{row-is, discharging, filled-read}
+use Rattle.machine.proofs.Walking.{row-is, discharging, filled-read}
 
 module _ (b : Core) (a : Numbers) (h : Held b a) (d : Delivery) where
   pub delivery-missing : (number : ℕ) (sheet : List ℕ) → number ≡ first (lookupReasons 1024 (b .positions) (d .position)) → number ≢ 0 → length sheet ≡ SHEET-CELLS

@@ -45,7 +45,7 @@ use Rattle.kept.proofs.Discharging.{positions-many, accounted, lookup-there, mi
 use Rattle.machine.specs.declared.Core.{Core}
 use Rattle.machine.specs.View.{Numbers, numbers, followed, followedIn, keptOf, bookOf, heldIn, Held, Taken, CashTerms, CalledOn, Discharging, Discharged}
 use Rattle.machine.proofs.Returns.{refused-on, taken-on}
-use Rattle.discharges.proofs.Walking.{row-is, discharging, filled-read}
+use Rattle.machine.proofs.Walking.{row-is, discharging, filled-read}
 
 -- a discharge leaves members and references as they are
 module _ (xs : List Piece) where

@@ -13,6 +13,10 @@ ghost use Rattle.rows.specs.Rows.{awardsOf};
 ghost use Rattle.plain.specs.declared.Ledger.{Ledger};
 ghost use Rattle.ledger.specs.Posts.{ledgerOf};
 ghost use Rattle.machine.specs.View.{numbers, followed, Held, CalledOn, Discharging, Discharged, Taken, CashTerms};
+use crate::refusal::cash_refusal;
+use crate::refusal::confirm_refusal;
+use crate::refusal::delivery_refusal;
+use crate::refusal::lookup_refusal;
 use events::Cash;
 use events::Confirm;
 use events::Delivery;
@@ -82,14 +86,14 @@ pub fn delivery(
     requires { ⌜ ((trades : List ℕ) × (accounts : Ledger) × Held core (numbers (now rows) trades (now awards) (now counts) (now starts) (now words) accounts)) × (length (now sheet) ≡ SHEET-CELLS) ⌝ }
     ensures { λ r. ⌜ ((trades : List ℕ) (accounts : Ledger) → Held core (numbers (now (rows .entry)) trades (now (awards .entry)) (now (counts .entry)) (now (starts .entry)) (now (words .entry)) accounts) → CalledOn core (numbers (now (rows .entry)) trades (now (awards .entry)) (now (counts .entry)) (now (starts .entry)) (now (words .entry)) accounts) (call (event.Delivery d) PLACES) (now (sheet .entry)) (r .core) (numbers (now (rows .exit)) trades (now (awards .entry)) (now (counts .exit)) (now (starts .exit)) (now (words .exit)) accounts) (now (sheet .exit)) (r .outcome) (r .pieces)) ⌝ }
 {
-    let missing = refusals::lookup_refusal(PLACES, core.positions, d.position);
+    let missing = lookup_refusal(PLACES, core.positions, d.position);
     if missing != 0 {
         return refused(core, missing);
     }
     let place = (d.position - 1) as usize;
     let p = rows::row_at(rows, place);
     let reserved = auction::unconfirmed_units(awards, core.awards, d.position);
-    let number = refusals::delivery_refusal(p, core.day, core.auction.position, reserved, d);
+    let number = delivery_refusal(p, core.day, core.auction.position, reserved, d);
     if number != 0 {
         return refused(core, number);
     }
@@ -168,13 +172,13 @@ pub fn confirm(
     requires { ⌜ ((trades : List ℕ) × Held core (numbers (now rows) trades (now awards) (now counts) (now starts) (now words) (ledgerOf (now credits) (now debits)))) × (length (now sheet) ≡ SHEET-CELLS) ⌝ }
     ensures { λ r. ⌜ ((trades : List ℕ) → Held core (numbers (now (rows .entry)) trades (now (awards .entry)) (now (counts .entry)) (now (starts .entry)) (now (words .entry)) (ledgerOf (now (credits .entry)) (now (debits .entry)))) → CalledOn core (numbers (now (rows .entry)) trades (now (awards .entry)) (now (counts .entry)) (now (starts .entry)) (now (words .entry)) (ledgerOf (now (credits .entry)) (now (debits .entry)))) (call (event.Confirm c) PLACES) (now (sheet .entry)) (r .core) (numbers (now (rows .exit)) trades (now (awards .exit)) (now (counts .exit)) (now (starts .exit)) (now (words .exit)) (ledgerOf (now (credits .exit)) (now (debits .exit)))) (now (sheet .exit)) (r .outcome) (r .pieces)) ⌝ }
 {
-    let missing = refusals::lookup_refusal(PLACES, core.awards, c.award);
+    let missing = lookup_refusal(PLACES, core.awards, c.award);
     if missing != 0 {
         return refused(core, missing);
     }
     let k = (c.award - 1) as usize;
     let award = rows::award_at(awards, k);
-    let number = refusals::confirm_refusal(award);
+    let number = confirm_refusal(award);
     if number != 0 {
         return refused(core, number);
     }
@@ -243,7 +247,7 @@ pub fn cash(
     requires { ⌜ ((trades awards : List ℕ) × Held core (numbers (now rows) trades awards (now counts) (now starts) (now words) (ledgerOf (now credits) (now debits)))) × (length (now sheet) ≡ SHEET-CELLS) ⌝ }
     ensures { λ r. ⌜ ((trades awards : List ℕ) → Held core (numbers (now (rows .entry)) trades awards (now (counts .entry)) (now (starts .entry)) (now (words .entry)) (ledgerOf (now (credits .entry)) (now (debits .entry)))) → CalledOn core (numbers (now (rows .entry)) trades awards (now (counts .entry)) (now (starts .entry)) (now (words .entry)) (ledgerOf (now (credits .entry)) (now (debits .entry)))) (call (event.Cash c) PLACES) (now (sheet .entry)) (r .core) (numbers (now (rows .exit)) trades awards (now (counts .exit)) (now (starts .exit)) (now (words .exit)) (ledgerOf (now (credits .exit)) (now (debits .exit)))) (now (sheet .exit)) (r .outcome) (r .pieces)) ⌝ }
 {
-    let missing = refusals::lookup_refusal(PLACES, core.positions, c.position);
+    let missing = lookup_refusal(PLACES, core.positions, c.position);
     if missing != 0 {
         return refused(core, missing);
     }
@@ -252,7 +256,7 @@ pub fn cash(
     let class = class_of(core.opening, p.security);
     let latest = latest_of(core.prices, p.security);
     let today = refusals::step_today(class, core.day, p);
-    let number = refusals::cash_refusal(p, core.day, today, latest);
+    let number = cash_refusal(p, core.day, today, latest);
     if number != 0 {
         return refused(core, number);
     }

@@ -1,8 +1,7 @@
-// The discharges of a short, in place: delivered, bought in when an award is confirmed, settled in cash, and paired off.
+// The discharges of a short, in place: delivered, bought in when an award is confirmed, and settled in cash.
 mod discharge;
-mod pairing;
+mod refusal;
 
 pub use discharge::cash;
 pub use discharge::confirm;
 pub use discharge::delivery;
-pub use pairing::pair_off;

@@ -1,1 +1,3 @@
 pub mod Returns
+pub mod Started
+pub mod Walking

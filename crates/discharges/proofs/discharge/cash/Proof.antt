@@ -12,7 +12,7 @@ use Rattle.kept.specs.View.{view}
 use Rattle.kept.proofs.Discharging.{lookup-there}
 use Rattle.ledger.specs.Posts.{ledgerOf}
 use Rattle.machine.specs.View.{Numbers, numbers, Held, Taken, CashTerms}
-use Rattle.discharges.proofs.Walking.{registered}
+use Rattle.machine.proofs.Walking.{registered}
 use Rattle.discharges.proofs.Settling.{cash-missing, cash-refused, cash-accepted}
 use borrow.Author.Needs.{needs}
 use Rattle.discharges.proofs.discharge.cash.Statement.{statement}

@@ -2,7 +2,7 @@
 use native.Mathlib.Omega.{arith}
 use mathlib.Core.Path.{refl}
 use borrow.Author.Needs.{needs}
-use Rattle.discharges.proofs.Walking.{units-of, lowered-late, follows-after, starts-moved}
+use Rattle.machine.proofs.Walking.{units-of, lowered-late, follows-after, starts-moved}
 use Rattle.discharges.proofs.discharge.discharge.Statement.{statement}
 use Rattle.discharges.proofs.discharge.discharge.Tie as tie
 
