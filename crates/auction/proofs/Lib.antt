@@ -1,4 +1,5 @@
 pub mod Ahead
+pub mod Cells
 pub mod Placing
 pub mod Takings
 pub mod Numbered
