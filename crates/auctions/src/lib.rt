@@ -1,9 +1,8 @@
 // An auction from its attempt over the offers to the award.
 mod refusal;
 
-ghost use Prim.Native.Nat.{ℕ, _<_};
+ghost use Prim.Native.Nat.{_<_};
 ghost use mathlib.Core.Path.{_≡_};
-ghost use mathlib.Core.List.{List};
 ghost use lib.ListN.{length};
 ghost use Rattle.laws.specs.Limits.{ATTEMPTS};
 ghost use Rattle.events.specs.declared.Event.the-variants as event;

@@ -10,7 +10,6 @@ use Rattle.laws.specs.Refusals.{accepted}
 use Rattle.events.specs.declared.Event.{Event}
 use Rattle.events.specs.declared.Event.the-variants as event
 use Rattle.plain.specs.declared.Piece.{Piece}
-use Rattle.plain.specs.declared.Manner.{Manner}
 use Rattle.plain.specs.declared.Outcome.{Outcome}
 use Rattle.plain.specs.declared.Outcome.the-variants as outcome
 use Rattle.plain.specs.Book as plain

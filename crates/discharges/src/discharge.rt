@@ -5,7 +5,6 @@ ghost use mathlib.Core.List.{List};
 ghost use lib.ListN.{length, getD};
 ghost use Rattle.laws.specs.Limits.{PLACES, SECURITIES, SHEET-CELLS};
 ghost use Rattle.events.specs.declared.Event.the-variants as event;
-ghost use Rattle.plain.specs.declared.Manner.the-variants as manner;
 ghost use Rattle.plain.specs.Book.{nth, noAward};
 ghost use Rattle.plain.specs.Calls.{call};
 ghost use Rattle.laws.specs.Asked.{Within};

@@ -14,7 +14,6 @@ use Rattle.laws.specs.Asked.{Said, passed, failed, ask}
 use Rattle.laws.specs.Refusals.{Reason, _⇒_, first, first-neither, none-applies}
 use Rattle.laws.specs.Words.{word16At, bytes16}
 use Rattle.laws.specs.Parts.{all-take, all-drop, read-part}
-use Rattle.events.specs.declared.Event.{Event}
 use Rattle.events.specs.Layout.{BODY}
 use Rattle.events.specs.Body.{kindOf, isKind, bodyOf, spareSet, Fits}
 use Rattle.events.specs.Passing.{word16-back, event-back, event-fits}

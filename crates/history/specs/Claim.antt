@@ -5,7 +5,7 @@ use mathlib.Core.Path.{_≡_}
 use mathlib.Core.Logic.{_≢_}
 use mathlib.Core.List.{List, [], _∷_, _++_, map}
 use mathlib.Core.Bool.{true, cond}
-use lib.ListN.{length, getD, take, drop}
+use lib.ListN.{length, getD, drop}
 use lib.IntN.{pos, subℕ, _+ℤ_}
 use Rattle.laws.specs.Limits.{ACCOUNTS, MEMBERS}
 use Rattle.laws.specs.Asked.{Within, within}

@@ -113,8 +113,8 @@ pub record Lent (b : Core) (a : Numbers) : Type 0 where
   pub awards : length (a .awards) ≡ AWARD-CELLS
   pub follows : Follows (b .day .0) (a .rows) (b .positions) (a .counts) (followedIn b a)
 
--- what holds of every core with its numbers that opening or a call leaves. A core's fields are private, so that no other code makes one; numbers that
--- other code has changed do not meet this, and no call takes them.
+-- what holds of every core with its numbers that opening or a call leaves. Every call asks for it, so that none takes a core or numbers that other code has
+-- made or changed
 pub record Held (b : Core) (a : Numbers) : Type 0 where
   pub valid : Valid (keptOf b a)
   pub lent : Lent b a

@@ -1,8 +1,8 @@
 // The desk's page: the positions at the end of a file, a line of 80 columns and a line feed each, in the first bytes of a page that the caller
 // lends. Document 02, Slips 1 and 5.
 ghost use mathlib.Core.Path.{_≡_};
-ghost use mathlib.Core.List.{List, [], _++_};
-ghost use Prim.Native.Nat.{ℕ, _+_, _-_, _*_, _≤_};
+ghost use mathlib.Core.List.{[], _++_};
+ghost use Prim.Native.Nat.{_+_, _-_, _*_, _≤_};
 ghost use lib.ListN.{length, drop};
 ghost use lib.Seq.{sets};
 ghost use Rattle.laws.specs.Limits.{SECURITIES};

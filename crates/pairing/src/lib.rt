@@ -5,7 +5,6 @@ ghost use mathlib.Core.List.{List};
 ghost use lib.ListN.{length};
 ghost use Rattle.laws.specs.Limits.{PLACES, SHEET-CELLS};
 ghost use Rattle.events.specs.declared.Event.the-variants as event;
-ghost use Rattle.plain.specs.declared.Manner.the-variants as manner;
 ghost use Rattle.plain.specs.Calls.{call};
 ghost use Rattle.plain.specs.declared.Ledger.{Ledger};
 ghost use Rattle.machine.specs.View.{numbers, followed, Held, CalledOn, PairingOff, PairedOff};

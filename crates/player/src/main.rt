@@ -1,9 +1,8 @@
 // The player: a register and a file of events from standard input, and what becomes of them on standard output.
 // What it prints is the definition `transcript`, block by block (`transcript/specs/Whole.antt`). Only the copying from standard input and
 // of pages to standard output is outside the proofs.
-ghost use Prim.Native.Nat.{ℕ, _≤_};
+ghost use Prim.Native.Nat.{_≤_};
 ghost use mathlib.Core.Path.{_≡_};
-ghost use mathlib.Core.List.{List};
 ghost use lib.ListN.{length};
 ghost use Rattle.laws.specs.Limits.{SHEET-CELLS};
 ghost use Rattle.files.specs.File.{eventsOf};

@@ -1,7 +1,5 @@
 // What a caller reads of a book. Nothing is changed.
-ghost use Prim.Native.Nat.{ℕ};
 ghost use mathlib.Core.Path.{_≡_};
-ghost use mathlib.Core.List.{List};
 ghost use Rattle.reading.specs.Reading.{positionAnswer, awardAnswer, priceAnswer, balanceAnswer};
 ghost use Rattle.ledger.specs.Posts.{ledgerOf};
 ghost use Rattle.machine.specs.declared.Core.{Core};

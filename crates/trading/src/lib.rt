@@ -1,7 +1,5 @@
 // Trades and prices.
-ghost use Prim.Native.Nat.{ℕ};
 ghost use mathlib.Core.Path.{_≡_};
-ghost use mathlib.Core.List.{List};
 ghost use lib.ListN.{length};
 ghost use Rattle.laws.specs.Limits.{TRADE-CELLS};
 ghost use Rattle.events.specs.declared.Event.the-variants as event;

@@ -1,7 +1,6 @@
 // What the player prints for an input, in blocks that are written into a lent page. Document 01, 'Event files and the player'.
 ghost use mathlib.Core.Path.{_≡_};
-ghost use mathlib.Core.List.{List};
-ghost use Prim.Native.Nat.{ℕ, _+_, _*_, min};
+ghost use Prim.Native.Nat.{_+_, _*_, min};
 ghost use lib.ListN.{length, take};
 ghost use Rattle.laws.specs.Limits.{PLACES, SHEET-CELLS};
 ghost use Rattle.plain.specs.declared.Outcome.the-variants as outcome;

@@ -1,4 +1,4 @@
--- `calls::auctions::attempt` meets its contract.
+-- `auctions::attempt` meets its contract.
 use native.Mathlib.Omega.{arith}
 use mathlib.Core.Path.{_≡_, sym, _∙_}
 use mathlib.Core.Bool.{true}

@@ -1,4 +1,4 @@
--- `calls::auctions::award` meets its contract.
+-- `auctions::award` meets its contract.
 use Prim.Native.Nat.{_≤_}
 use native.Mathlib.Omega.{arith}
 use Rattle.machine.specs.View.{Numbers, onRows, onAwards}

@@ -1,4 +1,4 @@
--- `calls::auctions::offer` meets its contract.
+-- `auctions::offer` meets its contract.
 use Prim.Native.Nat.{_<_}
 use native.Mathlib.Omega.{arith}
 use mathlib.Core.Path.{_≡_, sym, _∙_}

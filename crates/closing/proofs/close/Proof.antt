@@ -1,4 +1,4 @@
--- `calls::closing::close` meets its contract.
+-- `closing::close` meets its contract.
 use borrow.Author.Needs.{needs}
 use Rattle.events.specs.declared.Event.the-variants as event
 use Rattle.plain.specs.Calls.{call}

@@ -1,4 +1,4 @@
--- `refusals::close_refusal` meets its contract: at each return the tests that were passed, and the one that was not, decide the list.
+-- `closing::close_refusal` meets its contract: at each return the tests that were passed, and the one that was not, decide the list.
 use Rattle.plain.specs.Refusals.{closeReasons}
 use Rattle.refusals.proofs.Passed.{refusing}
 use Rattle.closing.proofs.close_refusal.Statement.{statement}

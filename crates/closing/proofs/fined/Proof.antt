@@ -1,5 +1,4 @@
--- `calls::closing::fined` meets its contract.
-use borrow.Author.Needs.{needs}
+-- `closing::fined` meets its contract.
 use Rattle.kept.proofs.ClosingDay.{close-finable}
 use Rattle.ledger.specs.Posts.{ledgerOf}
 use Rattle.machine.specs.View.{onRows, onAwards, onLedger, keptOf}

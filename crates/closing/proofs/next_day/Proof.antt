@@ -1,4 +1,4 @@
--- `calls::closing::next_day` meets its contract.
+-- `closing::next_day` meets its contract.
 use mathlib.Core.Path.{refl}
 use borrow.Author.Needs.{needs}
 use Rattle.closing.proofs.next_day.Statement.{statement}

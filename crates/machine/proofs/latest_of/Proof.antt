@@ -1,4 +1,4 @@
--- `calls::latest_of` meets its contract: number n stands at place n - 1.
+-- `machine::latest_of` meets its contract: number n stands at place n - 1.
 use native.Mathlib.Omega.{arith}
 use borrow.Author.Needs.{needs}
 use borrow.Author.Tests.{eq-eqb, ne-eqb}

@@ -1,4 +1,4 @@
--- `refusals::both_lookup_refusal` meets its contract: at each return the tests that were passed, and the one that was not, decide the list.
+-- `pairing::both_lookup_refusal` meets its contract: at each return the tests that were passed, and the one that was not, decide the list.
 use borrow.Author.Needs.{needs}
 use Rattle.plain.specs.Refusals.{bothLookupReasons}
 use Rattle.refusals.proofs.Passed.{refusing}

@@ -1,4 +1,4 @@
--- `refusals::is_pairable` meets its contract: at each return the tests that were passed, and the one that was not, decide.
+-- `pairing::is_pairable` meets its contract: at each return the tests that were passed, and the one that was not, decide.
 use mathlib.Core.Path.{sym, _∙_}
 use borrow.Author.Needs.{needs}
 use borrow.Author.Tests.{eq-eqb, ne-eqb, le-leb, lt-leb}

@@ -1,6 +1,6 @@
--- `calls::pairing::pair_off` meets its contract.
+-- `pairing::pair_off` meets its contract.
 use native.Mathlib.Omega.{arith}
-use Prim.Native.Nat.{ℕ, _≤_}
+use Prim.Native.Nat.{_≤_}
 use mathlib.Core.Path.{_≡_, sym, _∙_}
 use Rattle.laws.specs.Asked.{Within}
 use Rattle.laws.specs.Refusals.{first}

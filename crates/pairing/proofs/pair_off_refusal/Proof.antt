@@ -1,4 +1,4 @@
--- `refusals::pair_off_refusal` meets its contract: at each return the tests that were passed, and the one that was not, decide the list.
+-- `pairing::pair_off_refusal` meets its contract: at each return the tests that were passed, and the one that was not, decide the list.
 use borrow.Author.Needs.{needs}
 use Rattle.plain.specs.Dealing.{due}
 use Rattle.plain.specs.Refusals.{pairOffReasons}

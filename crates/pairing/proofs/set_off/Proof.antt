@@ -1,7 +1,6 @@
--- `calls::pairing::set_off` meets its contract.
+-- `pairing::set_off` meets its contract.
 use native.Mathlib.Omega.{arith}
 use mathlib.Core.Path.{refl}
-use borrow.Author.Needs.{needs}
 use Rattle.positions.proofs.Pairing.{set-off-out}
 use Rattle.machine.proofs.Walking.{units-of, lowered-late, follows-after, starts-kept}
 use Rattle.pairing.proofs.set_off.Statement.{statement}

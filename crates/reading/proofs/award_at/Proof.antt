@@ -1,4 +1,4 @@
--- `calls::reading::award_at` meets its contract.
+-- `reading::award_at` meets its contract.
 use native.Mathlib.Omega.{arith}
 use Prim.Native.Nat.{_≤_}
 use lib.ListN.{length}

@@ -1,4 +1,4 @@
--- `calls::reading::balance` meets its contract.
+-- `reading::balance` meets its contract.
 use mathlib.Core.Path.{sym}
 use borrow.Author.Tests.{lt-ltb, le-ltb}
 use Rattle.kept.specs.View.{view}

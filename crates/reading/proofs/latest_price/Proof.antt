@@ -1,4 +1,4 @@
--- `calls::reading::latest_price` meets its contract.
+-- `reading::latest_price` meets its contract.
 use native.Mathlib.Omega.{arith}
 use Rattle.laws.specs.Asked.{Within, fails, passes, within-low, within-high}
 use Rattle.kept.specs.View.{view}

@@ -1,4 +1,4 @@
--- `calls::reading::position` meets its contract.
+-- `reading::position` meets its contract.
 use native.Mathlib.Omega.{arith}
 use Prim.Native.Nat.{_≤_}
 use lib.ListN.{length}

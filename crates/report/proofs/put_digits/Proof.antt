@@ -1,8 +1,8 @@
 -- `report::put_digits` meets its contract. The invariant: the digits still to come, with the page from where they end, are the page to be.
 use Prim.Native.Nat.{ℕ, _≤_}
-use mathlib.Core.Path.{_≡_, refl, ap, sym, subst, _∙_}
+use mathlib.Core.Path.{_≡_, refl, sym, subst, _∙_}
 use mathlib.Core.List.{_++_}
-use lib.ListN.{length, drop, set, length-set}
+use lib.ListN.{length, drop, length-set}
 use native.Mathlib.Omega.{arith}
 use Rattle.report.specs.Digits.{digits, length-one}
 use Rattle.report.proofs.Stored.{Unstored, all-unstored, two-stored, last-digit, last-stored, all-stored}

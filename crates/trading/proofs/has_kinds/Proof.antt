@@ -1,4 +1,4 @@
--- `refusals::has_kinds` meets its contract.
+-- `trading::has_kinds` meets its contract.
 use borrow.Author.Tests.{le-leb, lt-leb}
 use Rattle.trading.proofs.has_kinds.Statement.{statement}
 use Rattle.trading.proofs.has_kinds.Tie as tie

@@ -1,4 +1,4 @@
--- `refusals::is_one_party` meets its contract.
+-- `trading::is_one_party` meets its contract.
 use borrow.Author.Tests.{eq-eqb, ne-eqb}
 use Rattle.trading.proofs.is_one_party.Statement.{statement}
 use Rattle.trading.proofs.is_one_party.Tie as tie

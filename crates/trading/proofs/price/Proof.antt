@@ -1,4 +1,4 @@
--- `calls::trading::price` meets its contract.
+-- `trading::price` meets its contract.
 use Prim.Native.Nat.{_≤_}
 use native.Mathlib.Omega.{arith}
 use Rattle.trading.proofs.Entered.{price-refused, price-place, price-taken}

@@ -1,4 +1,4 @@
--- `refusals::price_refusal` meets its contract: at each return the tests that were passed, and the one that was not, decide the list.
+-- `trading::price_refusal` meets its contract: at each return the tests that were passed, and the one that was not, decide the list.
 use borrow.Author.Needs.{needs}
 use Rattle.plain.specs.Refusals.{priceReasons}
 use Rattle.refusals.proofs.Passed.{refusing}

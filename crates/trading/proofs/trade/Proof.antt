@@ -1,4 +1,4 @@
--- `calls::trading::trade` meets its contract.
+-- `trading::trade` meets its contract.
 use mathlib.Core.Path.{sym, _∙_}
 use Rattle.kept.proofs.Entered.{trade-room}
 use Rattle.trading.proofs.Entered.{trade-refused, trade-taken}

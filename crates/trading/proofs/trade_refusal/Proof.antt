@@ -1,4 +1,4 @@
--- `refusals::trade_refusal` meets its contract: at each return the tests that were passed, and the one that was not, decide the list.
+-- `trading::trade_refusal` meets its contract: at each return the tests that were passed, and the one that was not, decide the list.
 use borrow.Author.Needs.{needs}
 use Rattle.plain.specs.Refusals.{tradeReasons}
 use Rattle.refusals.proofs.Passed.{refusing}

@@ -1,4 +1,4 @@
--- `refusals::auction_refusal` meets its contract: at each return the tests that were passed, and the one that was not, decide the list.
+-- `auctions::refusal::auction_refusal` meets its contract: at each return the tests that were passed, and the one that was not, decide the list.
 use Rattle.plain.specs.Refusals.{auctionReasons}
 use Rattle.refusals.proofs.Passed.{refusing}
 use Rattle.auctions.proofs.refusal.auction_refusal.Statement.{statement}

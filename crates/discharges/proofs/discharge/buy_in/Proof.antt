@@ -1,4 +1,4 @@
--- `calls::discharge::buy_in` meets its contract.
+-- `discharges::discharge::buy_in` meets its contract.
 use native.Mathlib.Omega.{arith}
 use Rattle.laws.specs.Asked.{Within}
 use Rattle.ledger.specs.Posts.{ledgerOf}

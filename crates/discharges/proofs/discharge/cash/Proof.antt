@@ -1,4 +1,4 @@
--- `calls::discharge::cash` meets its contract.
+-- `discharges::discharge::cash` meets its contract.
 use native.Mathlib.Omega.{arith}
 use mathlib.Core.Path.{_≡_, ap, sym, _∙_}
 use Rattle.events.specs.declared.Event.the-variants as event

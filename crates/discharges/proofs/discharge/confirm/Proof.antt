@@ -1,4 +1,4 @@
--- `calls::discharge::confirm` meets its contract.
+-- `discharges::discharge::confirm` meets its contract.
 use native.Mathlib.Omega.{arith}
 use mathlib.Core.Path.{_≡_, sym, _∙_}
 use Rattle.laws.specs.Refusals.{first}

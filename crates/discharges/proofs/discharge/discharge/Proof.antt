@@ -1,4 +1,4 @@
--- `calls::discharge::discharge` meets its contract.
+-- `discharges::discharge::discharge` meets its contract.
 use native.Mathlib.Omega.{arith}
 use mathlib.Core.Path.{refl}
 use borrow.Author.Needs.{needs}

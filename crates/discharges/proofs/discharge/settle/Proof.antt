@@ -1,4 +1,4 @@
--- `calls::discharge::settle` meets its contract.
+-- `discharges::discharge::settle` meets its contract.
 use Rattle.ledger.specs.Posts.{ledgerOf}
 use Rattle.machine.specs.View.{Numbers, numbers}
 use Rattle.discharges.proofs.Settling.{settling, settleable, cash-done}

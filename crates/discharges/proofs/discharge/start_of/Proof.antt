@@ -1,4 +1,4 @@
--- `calls::discharge::start_of` meets its contract: number n stands at place n - 1.
+-- `discharges::discharge::start_of` meets its contract: number n stands at place n - 1.
 use Prim.Native.Nat.{ℕ}
 use mathlib.Core.Path.{sym}
 use borrow.Author.Needs.{needs}

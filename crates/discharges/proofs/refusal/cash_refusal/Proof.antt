@@ -1,4 +1,4 @@
--- `refusals::cash_refusal` meets its contract: at each return the tests that were passed, and the one that was not, decide the list.
+-- `discharges::refusal::cash_refusal` meets its contract: at each return the tests that were passed, and the one that was not, decide the list.
 use borrow.Author.Needs.{needs}
 use Rattle.plain.specs.Refusals.{cashReasons}
 use Rattle.refusals.proofs.Passed.{refusing}

@@ -1,4 +1,4 @@
--- `refusals::confirm_refusal` meets its contract: at each return the tests that were passed, and the one that was not, decide the list.
+-- `discharges::refusal::confirm_refusal` meets its contract: at each return the tests that were passed, and the one that was not, decide the list.
 use Rattle.plain.specs.Refusals.{confirmReasons}
 use Rattle.refusals.proofs.Passed.{refusing}
 use Rattle.discharges.proofs.refusal.confirm_refusal.Statement.{statement}

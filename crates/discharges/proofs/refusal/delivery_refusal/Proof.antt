@@ -1,4 +1,4 @@
--- `refusals::delivery_refusal` meets its contract: at each return the tests that were passed, and the one that was not, decide the list.
+-- `discharges::refusal::delivery_refusal` meets its contract: at each return the tests that were passed, and the one that was not, decide the list.
 use borrow.Author.Needs.{needs}
 use Rattle.plain.specs.Dealing.{due}
 use Rattle.plain.specs.Refusals.{deliveryReasons}
