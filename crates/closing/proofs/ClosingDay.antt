@@ -25,7 +25,8 @@ use Rattle.tables.specs.Tables as table
 use Rattle.tables.specs.Lent.{positionTable, tradeTable, awardTable}
 use Rattle.rows.specs.Rows.{rowsOf}
 use Rattle.laws.specs.Refusals.{first}
-use Rattle.failing.specs.Counts.{Counted, LateBefore, Numbered}
+use Rattle.tables.specs.Late.{LateBefore}
+use Rattle.failing.specs.Counts.{Counted, Numbered}
 use Rattle.failing.proofs.Keeping.{counted-grown, late-before-grown}
 use Rattle.ledger.specs.Parts.{closeChargesOf}
 use Rattle.positions.specs.Dealing.{ClosedBefore}

@@ -1,16 +1,17 @@
 // The close of a day.
-ghost use Prim.Native.Nat.{ℕ, _<_};
+ghost use Prim.Native.Nat.{ℕ, _+_, _<_};
 ghost use mathlib.Core.Path.{_≡_};
 ghost use mathlib.Core.List.{List};
 ghost use Rattle.laws.specs.Limits.{LAST-DAY};
 ghost use Rattle.events.specs.declared.Event.the-variants as event;
 ghost use Rattle.plain.specs.Charging.{posted};
 ghost use Rattle.plain.specs.Calls.{call};
+ghost use Rattle.tables.specs.Late.{LateBefore};
 ghost use Rattle.tables.specs.Lent.{positionTable, awardTable};
 ghost use Rattle.ledger.specs.Parts.{closeChargesOf};
 ghost use Rattle.machine.specs.Cores.{closedCore};
 ghost use Rattle.ledger.specs.Posts.{ledgerOf};
-ghost use Rattle.machine.specs.View.{Numbers, numbers, onRows, onAwards, onLedger, Held, CalledBare, Taken};
+ghost use Rattle.machine.specs.View.{Numbers, numbers, onRows, onAwards, onLedger, heldIn, Held, CalledBare, Taken};
 ghost use Rattle.laws.specs.Refusals.{first};
 ghost use Rattle.plain.specs.Refusals.{closeReasons};
 use laws::ACCOUNTS;
@@ -40,15 +41,16 @@ fn close_refusal(auction: u16, day: BusinessDay) -> u8
     0
 }
 
-// The accounts with the charges of a close, which go by the positions and awards as they are.
+// The accounts with the charges of a close, which go by the positions and awards as they are; the positions before the place `until` are due.
 fn fined(
     core: Core,
     rows: &[u32; POSITION_CELLS],
     awards: &[u32; AWARD_CELLS],
+    until: usize,
     credits: &mut [u64; ACCOUNTS],
     debits: &mut [u64; ACCOUNTS],
 )
-    requires { ⌜ ((others : Numbers) × Taken core (onLedger (onAwards (onRows others (now rows)) (now awards)) (ledgerOf (now credits) (now debits))) (call event.Close 0)) ⌝ }
+    requires { ⌜ ((others : Numbers) × (Taken core (onLedger (onAwards (onRows others (now rows)) (now awards)) (ledgerOf (now credits) (now debits))) (call event.Close 0)) × (LateBefore (core .day .0 + 1) (heldIn (now rows) (core .positions)) until)) ⌝ }
     ensures { λ r. ⌜ ledgerOf (now (credits .exit)) (now (debits .exit)) ≡ posted (ledgerOf (now (credits .entry)) (now (debits .entry))) (closeChargesOf (awardTable (now (awards .entry)) (core .awards)) (positionTable (now (rows .entry)) (core .positions)) (core .prices) (core .opening .register) (core .day)) ⌝ }
 {
     ledger::post_close(
@@ -58,9 +60,9 @@ fn fined(
         core.awards,
         rows,
         core.positions,
+        until,
         core.prices,
         core.opening.register,
-        core.day,
     );
 }
 
@@ -81,7 +83,7 @@ fn next_day(core: Core, late: usize, positions: usize) -> Core
     after
 }
 
-// The day ends: its charges are posted, the shorts that were due on it become late, and its trades are netted.
+// The day ends: the shorts that were due on it become late, its charges are posted, and its trades are netted.
 pub fn close(
     core: Core,
     rows: &mut [u32; POSITION_CELLS],
@@ -99,9 +101,9 @@ pub fn close(
     if number != 0 {
         return refused(core, number);
     }
-    fined(core, rows, awards, credits, debits);
     let held = core.positions;
     let late = failing::raise_late(words, counts, rows, held, core.late, core.day);
+    fined(core, rows, awards, late, credits, debits);
     let made = netting::net_day(
         rows,
         held,

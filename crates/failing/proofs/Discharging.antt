@@ -19,7 +19,8 @@ use Rattle.plain.specs.Dealing.{taken, lowered, lowering}
 use Rattle.plain.specs.Invariants.{Deals}
 use Rattle.plain.proofs.Discharged.{length-lowering, lowering-at, taken-short, taken-other, no-long}
 use Rattle.plain.specs.Auction.{late}
-use Rattle.failing.specs.Counts.{lateShort, lateShorts, LateBefore, UnitsOf, Lowered, OneMore}
+use Rattle.tables.specs.Late.{LateBefore}
+use Rattle.failing.specs.Counts.{lateShort, lateShorts, UnitsOf, Lowered, OneMore}
 use Rattle.failing.proofs.Counting.{own-place}
 use Rattle.failing.proofs.Shorts.{is-late, not-open, not-late}
 use Rattle.plain.proofs.Numbered.{nth-at, sum-named}

@@ -18,7 +18,8 @@ use Rattle.plain.specs.Book.{noPosition}
 use Rattle.plain.specs.Auction.{failing}
 use Rattle.failing.specs.Members.{FailingWord}
 use Rattle.failing.proofs.Bits.{bit-zero}
-use Rattle.failing.specs.Counts.{lateShort, lateShorts, countPlace, Counted, LateBefore}
+use Rattle.tables.specs.Late.{LateBefore}
+use Rattle.failing.specs.Counts.{lateShort, lateShorts, countPlace, Counted}
 use Rattle.failing.proofs.Counting.{counted-same}
 use Rattle.failing.proofs.Shorts.{not-late}
 use Rattle.plain.proofs.Numbered.{nth-replicate}

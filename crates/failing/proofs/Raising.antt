@@ -18,7 +18,8 @@ use Rattle.plain.specs.declared.Position.{Position}
 use Rattle.plain.specs.Book.{noPosition}
 use Rattle.plain.specs.Invariants.{Rising}
 use Rattle.plain.specs.Auction.{late}
-use Rattle.failing.specs.Counts.{lateShort, lateShorts, Counted, LateBefore, OneMore}
+use Rattle.tables.specs.Late.{LateBefore}
+use Rattle.failing.specs.Counts.{lateShort, lateShorts, Counted, OneMore}
 use Rattle.failing.proofs.Counting.{counted-same}
 use Rattle.failing.proofs.Shorts.{is-late, not-open, not-late, stays-late}
 

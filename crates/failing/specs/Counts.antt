@@ -35,12 +35,6 @@ pub record Counted (day : ℕ) (ps : List Position) (words counts : List ℕ) : 
   pub failing : (s : ℕ) → Within 1 SECURITIES s → FailingWord day ps s (nth 0 words s)
   pub counted : (s m : ℕ) → Within 1 SECURITIES s → m ≤ MEMBERS → getD counts (countPlace s m) 0 ≡ lateShorts day ps s m
 
--- delivery days never fall along the positions, so that those of earlier days than this are the ones before a place
-pub record LateBefore (day : ℕ) (ps : List Position) (place : ℕ) : Type 0 where
-  pub inside : place ≤ length ps
-  pub earlier : (j : ℕ) → j < place → getD ps j noPosition .settlement .0 < day
-  pub later : (j : ℕ) → place ≤ j → j < length ps → day ≤ getD ps j noPosition .settlement .0
-
 -- units of a discharge of position n, which is the short p
 pub record UnitsOf (ps : List Position) (n : ℕ) (p : Position) (quantity : ℕ) : Type 0 where
   pub held : Within 1 (length ps) n

@@ -13,6 +13,7 @@ ghost use Rattle.plain.specs.Book.{nth};
 ghost use Rattle.laws.specs.Asked.{Within};
 ghost use Rattle.plain.specs.Invariants.{Rising};
 ghost use Rattle.tables.specs.Tables as tables;
+ghost use Rattle.tables.specs.Late.{LateBefore};
 ghost use Rattle.tables.specs.Lent.{positionTable};
 ghost use Rattle.failing.specs.Members.{bit, Added};
 ghost use Rattle.failing.specs.Counts as spec;
@@ -141,8 +142,8 @@ pub fn raise_late(
     from: usize,
     day: BusinessDay,
 ) -> usize
-    requires { ⌜ (spec.Numbered (positionTable (now rows) held)) × (Rising (tables.positions (positionTable (now rows) held))) × (spec.Counted (day .0) (tables.positions (positionTable (now rows) held)) (now words) (now counts)) × (spec.LateBefore (day .0) (tables.positions (positionTable (now rows) held)) from) ⌝ }
-    ensures { λ r. ⌜ (spec.Counted (day .0 + 1) (tables.positions (positionTable (now (rows .entry)) held)) (now (words .exit)) (now (counts .exit))) × (spec.LateBefore (day .0 + 1) (tables.positions (positionTable (now (rows .entry)) held)) r) ⌝ }
+    requires { ⌜ (spec.Numbered (positionTable (now rows) held)) × (Rising (tables.positions (positionTable (now rows) held))) × (spec.Counted (day .0) (tables.positions (positionTable (now rows) held)) (now words) (now counts)) × (LateBefore (day .0) (tables.positions (positionTable (now rows) held)) from) ⌝ }
+    ensures { λ r. ⌜ (spec.Counted (day .0 + 1) (tables.positions (positionTable (now (rows .entry)) held)) (now (words .exit)) (now (counts .exit))) × (LateBefore (day .0 + 1) (tables.positions (positionTable (now (rows .entry)) held)) r) ⌝ }
 {
     let mut i = from;
     while i < held && rows::settlement_at(rows, i) <= day.0 {

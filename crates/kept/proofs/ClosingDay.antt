@@ -79,7 +79,6 @@ module _ (b : Kept) (v : Valid b) where
         prices-many = v .sound .standing .prices .many;
         positions-fit = v .fits .positions;
         accounted = accounted b v;
-        rising = v .sound .standing .rising;
         awards-fit = v .fits .awards;
         awarded = awarded;
       }

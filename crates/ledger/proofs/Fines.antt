@@ -1,15 +1,16 @@
 -- The fines of a close, by the numbers that they are worked out from.
-use Prim.Native.Nat.{ℕ, _-_, _*_, _≤_, _<_}
+use Prim.Native.Nat.{ℕ, _+_, _-_, _*_, _≤_, _<_}
 use native.Mathlib.Omega.{arith}
 use mathlib.Core.Path.{_≡_, refl, ap, sym}
 use mathlib.Core.List.{List, [], _∷_}
 use mathlib.Core.Bool.{Bool, true, false, not, _&&_}
-use lib.ListN.{length, getD}
+use lib.ListN.{length, getD, drop, length-drop}
+use lib.Seq.{getD-drop}
 use lib.Dec.{ltb, eqb}
 use borrow.Author.Tests.{le-leb, lt-leb}
 use Rattle.laws.specs.Limits.{SECURITIES}
 use Rattle.laws.specs.Lists.{All}
-use Rattle.laws.specs.Alls.{all-of}
+use Rattle.laws.specs.Alls.{all-places}
 use Rattle.laws.specs.Asked.{Within}
 use Rattle.rules.specs.Charges.{awardFine, lateFine}
 use Rattle.register.specs.declared.Register.{Register}
@@ -17,12 +18,12 @@ use Rattle.plain.specs.declared.Position.{Position}
 use Rattle.plain.specs.declared.Award.{Award}
 use Rattle.plain.specs.declared.Ledger.{Ledger}
 use Rattle.plain.specs.declared.Latest.{Latest}
-use Rattle.plain.specs.Book.{Book, noPrice, nth, positionOf, classOf, latestOf}
+use Rattle.plain.specs.Book.{Book, noPosition, noPrice, nth, positionOf, classOf, latestOf}
 use Rattle.plain.proofs.Numbered.{nth-at}
 use Rattle.plain.specs.Dealing.{due}
-use Rattle.plain.specs.Invariants.{Rising}
 use Rattle.plain.specs.Charging.{posted, credited, debited, awardFines, lateFines}
 use Rattle.tables.specs.Tables.{Positions, Awards, prices, awards}
+use Rattle.tables.specs.Late.{LateBefore}
 use Rattle.tables.specs.Columns.{price-named}
 use Rattle.tables.specs.declared.Prices.{Prices}
 use Rattle.ledger.specs.Parts.{awardFinesOf}
@@ -66,10 +67,13 @@ pub late-not-due : (b : Book) (p : Position) → b .day < p .settlement .0 → l
 unfolding lateFines due
 late-not-due b p h = rw (lt-leb _ _ h, and-false)
 
--- and neither is any later one
-pub rest-not-due : (b : Book) (ps : List Position) → Rising ps → (p : Position) (qs : List Position) → ps ≡ p ∷ qs → b .day < p .settlement .0 → All (λ q. lateFines b q ≡ []) ps
-rest-not-due b ps r p qs e l =
-    rw e (late-not-due b p l, all-of (λ q. p .settlement .0 ≤ q .settlement .0) (λ q. lateFines b q ≡ []) qs (λ q k. late-not-due b q (omega (arith, l, k))) ((rw e at r) .0))
+-- so that none behind the place before which positions are due is fined
+pub rest-not-due : (b : Book) (ps : List Position) (place : ℕ) → LateBefore (b .day + 1) ps place → All (λ q. lateFines b q ≡ []) (drop place ps)
+rest-not-due b ps place h =
+    all-places (λ q. lateFines b q ≡ []) (drop place ps) noPosition
+    (λ j less.
+    rw (getD-drop place ps j noPosition)
+    (late-not-due b _ (omega (arith, h .later (place + j) (omega arith) (omega (arith, length-drop place ps, less))))))
 
 -- a due position of a security with this class and latest price
 module _

@@ -13,7 +13,6 @@ use Rattle.plain.specs.declared.Award.{Award}
 use Rattle.plain.specs.declared.Ledger.{Ledger}
 use Rattle.plain.specs.Charging.{Charge, pricedAt}
 use Rattle.laws.specs.Asked.{Within}
-use Rattle.plain.specs.Invariants.{Rising}
 use Rattle.plain.specs.Sound.{Booked}
 use Rattle.pieces.specs.Sheet.{sheetWith}
 use Rattle.tables.specs.Tables as table
@@ -53,14 +52,12 @@ pub record LateFinable (l : Ledger) (p : Positions) (prices : Prices) (register 
   pub prices-many : length (table.prices prices) ≡ SECURITIES
   pub positions-fit : PositionsFit p
   pub accounted : All Accounted (positions p)
-  pub rising : Rising (positions p)
 
 pub record CloseFinable (l : Ledger) (a : Awards) (p : Positions) (prices : Prices) (register : Register) (day : BusinessDay) : Type 0 where
   pub room : Room l (closeChargesOf a p prices register day)
   pub prices-many : length (table.prices prices) ≡ SECURITIES
   pub positions-fit : PositionsFit p
   pub accounted : All Accounted (positions p)
-  pub rising : Rising (positions p)
   pub awards-fit : AwardsFit a
   pub awarded : All (Awarded (p .count)) (awards a)
 

@@ -3,7 +3,7 @@
 ghost use mathlib.Core.Path.{_≡_};
 ghost use mathlib.Core.Bool.{not, _&&_};
 ghost use mathlib.Core.List.{[], _∷_};
-ghost use Prim.Native.Nat.{_+_, _<_, _≤_};
+ghost use Prim.Native.Nat.{ℕ, _+_, _<_, _≤_};
 ghost use lib.Dec.{eqb, ltb};
 ghost use lib.ListN.{length, getD};
 ghost use Rattle.laws.specs.Limits.{ACCOUNTS, SHEET-CELLS};
@@ -12,11 +12,13 @@ ghost use Rattle.plain.specs.Charging.{raise, posted, charge};
 ghost use Rattle.ledger.specs.Posts.{ledgerOf};
 ghost use Rattle.ledger.specs.Parts.{awardFinesOf, lateFinesOf, closeChargesOf};
 ghost use Rattle.ledger.specs.Tabled.{Chargeable, AwardsFinable, LateFinable, CloseFinable, Priceable, PricedOn};
+ghost use Rattle.laws.specs.declared.BusinessDay.{BusinessDay};
+ghost use Rattle.tables.specs.Tables.{positions};
+ghost use Rattle.tables.specs.Late.{LateBefore};
 ghost use Rattle.tables.specs.Lent.{positionTable, awardTable, pieceTable};
 ghost use Rattle.ledger.specs.Settling.{highestLong, priceOf, paymentsAt, settlementOf, Settleable};
 use laws::ACCOUNTS;
 use laws::AWARD_CELLS;
-use laws::BusinessDay;
 use laws::POSITION_CELLS;
 use laws::SHEET_CELLS;
 use plain::Position;
@@ -118,21 +120,20 @@ pub fn post_award_fines(
     }
 }
 
-// Delivery days never fall along the table, so that the due positions stand before the first that is not.
+// The positions before the place `until` are those that are due on a day: which day that is, and how many positions there are, need not be given.
 pub fn post_late_fines(
     credits: &mut [u64; ACCOUNTS],
     debits: &mut [u64; ACCOUNTS],
     rows: &[u32; POSITION_CELLS],
-    held: usize,
+    until: usize,
     prices: Prices,
     register: Register,
-    day: BusinessDay,
 )
-    requires { ⌜ LateFinable (ledgerOf (now credits) (now debits)) (positionTable (now rows) held) prices register day ⌝ }
-    ensures { λ r. ⌜ ledgerOf (now (credits .exit)) (now (debits .exit)) ≡ posted (ledgerOf (now (credits .entry)) (now (debits .entry))) (lateFinesOf (positionTable (now (rows .entry)) held) prices register day) ⌝ }
+    requires { ⌜ ((held : ℕ) × (day : BusinessDay) × (LateFinable (ledgerOf (now credits) (now debits)) (positionTable (now rows) held) prices register day) × (LateBefore (day .0 + 1) (positions (positionTable (now rows) held)) until)) ⌝ }
+    ensures { λ r. ⌜ ((held : ℕ) (day : BusinessDay) → LateFinable (ledgerOf (now (credits .entry)) (now (debits .entry))) (positionTable (now (rows .entry)) held) prices register day → LateBefore (day .0 + 1) (positions (positionTable (now (rows .entry)) held)) until → ledgerOf (now (credits .exit)) (now (debits .exit)) ≡ posted (ledgerOf (now (credits .entry)) (now (debits .entry))) (lateFinesOf (positionTable (now (rows .entry)) held) prices register day)) ⌝ }
 {
     let mut i: usize = 0;
-    while i < held && rows::settlement_at(rows, i) <= day.0 {
+    while i < until {
         let short = rows::row_at(rows, i);
         let k = (short.security - 1) as usize;
         let class = register.classes[k];
@@ -153,12 +154,12 @@ pub fn post_close(
     awarded: usize,
     rows: &[u32; POSITION_CELLS],
     held: usize,
+    until: usize,
     prices: Prices,
     register: Register,
-    day: BusinessDay,
 )
-    requires { ⌜ CloseFinable (ledgerOf (now credits) (now debits)) (awardTable (now awards) awarded) (positionTable (now rows) held) prices register day ⌝ }
-    ensures { λ r. ⌜ ledgerOf (now (credits .exit)) (now (debits .exit)) ≡ posted (ledgerOf (now (credits .entry)) (now (debits .entry))) (closeChargesOf (awardTable (now (awards .entry)) awarded) (positionTable (now (rows .entry)) held) prices register day) ⌝ }
+    requires { ⌜ ((day : BusinessDay) × (CloseFinable (ledgerOf (now credits) (now debits)) (awardTable (now awards) awarded) (positionTable (now rows) held) prices register day) × (LateBefore (day .0 + 1) (positions (positionTable (now rows) held)) until)) ⌝ }
+    ensures { λ r. ⌜ ((day : BusinessDay) → CloseFinable (ledgerOf (now (credits .entry)) (now (debits .entry))) (awardTable (now (awards .entry)) awarded) (positionTable (now (rows .entry)) held) prices register day → LateBefore (day .0 + 1) (positions (positionTable (now (rows .entry)) held)) until → ledgerOf (now (credits .exit)) (now (debits .exit)) ≡ posted (ledgerOf (now (credits .entry)) (now (debits .entry))) (closeChargesOf (awardTable (now (awards .entry)) awarded) (positionTable (now (rows .entry)) held) prices register day)) ⌝ }
 {
     if 0 < awarded {
         post_award_fines(
@@ -172,7 +173,7 @@ pub fn post_close(
             register,
         );
     }
-    post_late_fines(credits, debits, rows, held, prices, register, day);
+    post_late_fines(credits, debits, rows, until, prices, register);
 }
 
 // The first pass of a cash settlement over its pieces: the highest reference price among their longs.

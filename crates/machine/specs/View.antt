@@ -22,7 +22,8 @@ use Rattle.rows.specs.Rows.{rowsOf}
 use Rattle.pieces.specs.Sheet.{piecesOf, sheetWith}
 use Rattle.tables.specs.Tables as table
 use Rattle.tables.specs.Lent.{positionTable, tradeTable, awardTable, pieceTable, rowOf}
-use Rattle.failing.specs.Counts.{Counted, LateBefore}
+use Rattle.tables.specs.Late.{LateBefore}
+use Rattle.failing.specs.Counts.{Counted}
 use Rattle.positions.specs.Dealing.{Dealing, dealtOut, HandedOut, ClosedBefore}
 use Rattle.positions.specs.Pairing.{SettingOff}
 use Rattle.kept.specs.View.{Kept, Valid, view, answer}

@@ -29,15 +29,18 @@ returns c =
     let t = c .before in
     λ starts h. rw (c .refused .ensures) (close-refused _ (numbers _ _ _ _ starts _ _) h _ (t .before .close-refusal .ensures) (t .if1 .taken))
 
-fined-requires : tie.Need-fined-requires
-fined-requires c κs = (entry (c .before .before .before .before .before), taken (c .before .before .before))
-
 raise-late-requires : tie.Need-raise-late-requires
 unfolding view
 raise-late-requires c κs =
-    let s = c .before .before .before .before .before .before .before .before .before in
+    let s = c .before .before .before .before .before in
     let h = s .pre .1 in
     (numbered (s .args .core) (entry s) h, h .valid .sound .standing .rising, h .lent .follows .failing, h .lent .follows .late)
+
+fined-requires : tie.Need-fined-requires
+fined-requires c κs =
+    let l = c .before .before .before in
+    let e = l .before .before .before .before in
+    (entry (e .before .before), taken e, l .raise-late .ensures .1)
 
 net-day-requires : tie.Need-net-day-requires
 net-day-requires c κs =
@@ -57,9 +60,9 @@ returns-2 : tie.Need-returns-2
 returns-2 c =
     let n = c .before in
     let d = n .before in
-    let l = d .before .before in
-    let f = l .before .before .before .before in
-    let e = f .before .before .before .before in
+    let f = d .before .before in
+    let l = f .before .before .before .before in
+    let e = l .before .before .before .before in
     λ starts h. rw (c .done .ensures, n .next-day .ensures)
     (close-done _ (numbers _ _ _ _ starts _ _) (close-accepted _ (numbers _ _ _ _ starts _ _) h _ (e .before .close-refusal .ensures) (e .if1 .left)) _ _ _ _ _ _ (d .net-day .ensures .1) (f .fined .ensures) (l .raise-late .ensures .0) (l .raise-late .ensures .1) (d .net-day .ensures .0))
 
@@ -70,8 +73,8 @@ close-spec =
     close-refusal-requires
     refused-requires
     returns
-    fined-requires
     raise-late-requires
+    fined-requires
     net-day-requires
     next-day-requires
     done-requires

@@ -17,7 +17,8 @@ use Rattle.laws.specs.Asked.{Within}
 use Rattle.tables.specs.Tables.{positions}
 use Rattle.rows.specs.Rows.{rowsOf}
 use Rattle.tables.specs.Lent.{positionTable}
-use Rattle.failing.specs.Counts.{Counted, LateBefore}
+use Rattle.tables.specs.Late.{LateBefore}
+use Rattle.failing.specs.Counts.{Counted}
 use Rattle.failing.proofs.Raising.{counted-before, counted-whole, few-counted, one-more, none-more, late-before-end}
 use Rattle.failing.proofs.raise_late.Statement.{statement}
 use Rattle.failing.proofs.raise_late.Tie as tie
