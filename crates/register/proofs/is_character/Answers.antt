@@ -1,0 +1,10 @@
+-- `register::is_character` meets its contract.
+use mathlib.Core.Path.{sym}
+use borrow.Author.Rules.{rules}
+use Rattle.register.proofs.is_character.Goals as goal
+
+pub returns-then-is_digit : goal.returns-then-is_digit
+returns-then-is_digit c = simp (sym c.is_digit.ensures, c.if-is_digit.true)
+
+pub returns-else-is_digit : goal.returns-else-is_digit
+returns-else-is_digit c = simp (sym c.is_digit.ensures, c.if-is_digit.false, c.is_capital.ensures)
