@@ -26,8 +26,14 @@ LEMMAS = {
     "traded-by", "right-size", "close-charges", "position-text", "ledger-of", "in-cents", "cash-price", "price-number",
     "paired-off", "of-date", "answer-number", "date-value", "day-refusal", "day-value", "fields-of",
 }
-# Lemmas with this spelling already, in a file where a definition gets it now.
-WITHIN = {"crates/calendar/specs/Decided.antt": {"of_number"}, "crates/plain/proofs/AwardSteps.antt": {"runs_on"}, "crates/page/proofs/Legible.antt": {"in_order"}}
+# Names with this spelling already, in files where a definition gets it: the definition's old name, the name here, and its new one.
+WITHIN = {
+    "crates/plain/proofs/AwardSteps.antt": ("runsOn", "runs_on", "runs_on_lem"),
+    "crates/plain/proofs/Covering.antt": ("runsOn", "runs_on", "runs_on_lem"),
+    "crates/plain/proofs/Confirmed.antt": ("runsOn", "runs_on", "runs_on_lem"),
+    "crates/page/proofs/Legible.antt": ("inOrder", "in_order", "in_order_lem"),
+    "crates/calendar/specs/Decided.antt": ("ofNumber", "of_number", "number_passed"),
+}
 
 
 def texts(*endings):
@@ -91,7 +97,8 @@ def main():
     rows = table()
     for path in texts(".antt", ".rt", ".edit"):
         own = dict(rows)
-        own.update({n: n + "_lem" for n in WITHIN.get(path, ())})
+        if path in WITHIN and WITHIN[path][0] in rows:
+            own[WITHIN[path][1]] = WITHIN[path][2]
         old = read(path)
         new = turned(old, own)
         if path.endswith(".edit"):

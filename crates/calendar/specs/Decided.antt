@@ -56,8 +56,8 @@ module _ (opening : ℕ) (bytes : List ℕ) (number : ℕ) where
   abbrev days_there : ℕ
   days_there = length (business_days (holidays bytes) (day_number opening))
 
-  abbrev of_number_lem : List Reason
-  of_number_lem = number_reasons opening (holidays bytes) number
+  abbrev of_number : List Reason
+  of_number = number_reasons opening (holidays bytes) number
 
   refused : (k : ℕ) → k ≡ day_to_date_refusal opening bytes number → k ≢ 0 → date.Refused k ≡ day_to_date opening bytes number
   unfolding day_to_date
@@ -70,22 +70,22 @@ module _ (opening : ℕ) (bytes : List ℕ) (number : ℕ) where
   module _ (v : valid opening ≡ true) where
     pub holidays_wrong : (r : ℕ) → r ≡ first (holiday_reasons bytes) → r ≢ 0 → date.Refused r ≡ day_to_date opening bytes number
     unfolding day_to_date_refusal
-    holidays_wrong r e n = refused r (past 27 (ap not v) (holidays_decide bytes r of_number_lem e n)) n
+    holidays_wrong r e n = refused r (past 27 (ap not v) (holidays_decide bytes r of_number e n)) n
 
     module _ (h : first (holiday_reasons bytes) ≡ 0) where
-      by_number : first of_number_lem ≡ day_to_date_refusal opening bytes number
+      by_number : first of_number ≡ day_to_date_refusal opening bytes number
       unfolding day_to_date_refusal
-      by_number = past 27 (ap not v) (rest_decides bytes of_number_lem h)
+      by_number = past 27 (ap not v) (rest_decides bytes of_number h)
 
       pub number_low : number < 1 → date.Refused 29 ≡ day_to_date opening bytes number
       unfolding within
-      number_low l = let e : 29 ≡ first of_number_lem = rw (lt-leb 1 number l) in refused 29 (e ∙ by_number) (λ z. omega arith)
+      number_low l = let e : 29 ≡ first of_number = rw (lt-leb 1 number l) in refused 29 (e ∙ by_number) (λ z. omega arith)
 
       pub number_high : 9999 < number → date.Refused 29 ≡ day_to_date opening bytes number
       unfolding within
       number_high l =
           let low : 1 ≤ number = omega arith in
-          let e : 29 ≡ first of_number_lem = rw (le-leb 1 number low, lt-leb number 9999 l) in
+          let e : 29 ≡ first of_number = rw (le-leb 1 number low, lt-leb number 9999 l) in
           refused 29 (e ∙ by_number) (λ z. omega arith)
 
       module _ (low : 1 ≤ number) (high : number ≤ 9999) where
@@ -93,13 +93,13 @@ module _ (opening : ℕ) (bytes : List ℕ) (number : ℕ) where
         unfolding within
         day_after n =
             let l = none_there (holidays bytes) (day_number opening) number (omega (arith, day_below opening v)) low n in
-            let e : 30 ≡ first of_number_lem = rw (le-leb 1 number low, le-leb number 9999 high, lt-ltb days_there number l) in
+            let e : 30 ≡ first of_number = rw (le-leb 1 number low, le-leb number 9999 high, lt-ltb days_there number l) in
             refused 30 (e ∙ by_number) (λ z. omega arith)
 
         pub date_is : number ≤ days_there → date.Date date_sought ≡ day_to_date opening bytes number
         unfolding day_to_date within
         date_is l =
-            let e : 0 ≡ first of_number_lem = rw (le-leb 1 number low, le-leb number 9999 high, le-ltb days_there number l) in
+            let e : 0 ≡ first of_number = rw (le-leb 1 number low, le-leb number 9999 high, le-ltb days_there number l) in
             ap (λ (r : ℕ). date_answer r date_sought) (e ∙ by_number)
 
   -- what an accepted number says
@@ -115,17 +115,17 @@ module _ (opening : ℕ) (bytes : List ℕ) (number : ℕ) where
   unfolding day_to_date day_to_date_refusal
   dated d e =
       let g = date_given (day_to_date_refusal opening bytes number) date_sought d e in
-      let before = first_neither (invalid opening ∷ holiday_reasons bytes) of_number_lem refl g.0 in
+      let before = first_neither (invalid opening ∷ holiday_reasons bytes) of_number refl g.0 in
       let start = first_neither (invalid opening ∷ []) (holiday_reasons bytes) refl before.0 in
       let of_start = none_applies (invalid opening ∷ []) refl start.0 in
-      let of_number_lem = none_applies of_number_lem refl before.1 in
-      let w : within 1 9999 number ≡ true = not-false _ of_number_lem.0 in
+      let number_passed = none_applies of_number refl before.1 in
+      let w : within 1 9999 number ≡ true = not-false _ number_passed.0 in
       record {
         opened = not-false (valid opening) of_start.0;
         listed = start.1;
         from = within_low 1 9999 number w;
         to = within_high 1 9999 number w;
-        there = ltb-false days_there number of_number_lem.1.0;
+        there = ltb-false days_there number number_passed.1.0;
         value = g.1;
       }
 

@@ -22,7 +22,7 @@ use Rattle.plain.proofs.Standing.{standing_few}
 use Rattle.plain.proofs.Sound.{sound}
 use Rattle.plain.proofs.Kept.{run_opening}
 use Rattle.report.specs.Digits.{digits, digits_most}
-use Rattle.page.specs.Columns.{blanks, LINE, Fits, in_order_lem}
+use Rattle.page.specs.Columns.{blanks, LINE, Fits, in_order}
 use Rattle.page.specs.Page.{isin_of, columns, page_line, line_of, page_lines, page_text}
 use Rattle.page.specs.Laws.{Legible, LegiblePage, EveryPage}
 use Rattle.page.proofs.Laying.{laid, length_isin, length_line, line_read, figure_read}
@@ -57,7 +57,7 @@ small_fits isins n p s =
     (number, (member, (isin, (omega arith, (netted, (delivered, (bought, (cash, (unsettled, (settlement, (omega arith, tt)))))))))))
 
 -- the columns follow each other in any line
-pub in_order_lem : (isins : List ℕ) (n : ℕ) (p : Position) → in_order_lem 1 (columns isins n p) ≡ true
+pub in_order_lem : (isins : List ℕ) (n : ℕ) (p : Position) → in_order 1 (columns isins n p) ≡ true
 unfolding columns
 in_order_lem isins n p = refl
 

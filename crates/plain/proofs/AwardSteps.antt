@@ -29,7 +29,7 @@ use Rattle.plain.specs.Dealing.{lowering}
 use Rattle.plain.specs.Auction.{by_price, award_for, awarded, unconfirmed, confirmed_award}
 use Rattle.plain.specs.Calls.{auction_awards}
 use Rattle.plain.specs.Cover.{units_of, Cheapest}
-use Rattle.plain.specs.Refusals.{step_today, free, runs_on_lem}
+use Rattle.plain.specs.Refusals.{step_today, free, runs_on}
 use Rattle.plain.proofs.Accepted.{DeliveryTaken, AttemptTaken, OfferTaken, AwardTaken, ConfirmTaken, CashTaken}
 use Rattle.plain.specs.Invariants.{Dealable, Deals, OfferFits, AwardFits}
 use Rattle.plain.specs.Sound.{kind_on, Marked, marked, Auctioned, AuctionedBook}
@@ -39,7 +39,7 @@ use Rattle.plain.proofs.Cover as cheapest'
 use Rattle.plain.proofs.Cover.{awards_all, awards_few}
 
 -- an auction that runs on n
-pub runs_on_lem : (b : Book) (n : ℕ) → runs_on_lem b.auction.position n ≡ true → (0 < b.auction.position) × (b.auction.position ≡ n)
+pub runs_on_lem : (b : Book) (n : ℕ) → runs_on b.auction.position n ≡ true → (0 < b.auction.position) × (b.auction.position ≡ n)
 runs_on_lem b n e = (
   ltb-true 0 b.auction.position (and_left (ltb 0 b.auction.position) (eqb b.auction.position n) e),
   eqb-true b.auction.position n (and_right (ltb 0 b.auction.position) (eqb b.auction.position n) e),

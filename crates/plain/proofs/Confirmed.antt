@@ -37,7 +37,7 @@ use Rattle.plain.proofs.Accepted.{award_taken, confirm_taken, run_keeps}
 use Rattle.plain.proofs.Numbered.{nth_append, nth_behind, nth_number, nth_alike, nth_all}
 use Rattle.plain.proofs.Formed.{fresh_lowering, fresh_at}
 use Rattle.plain.proofs.Kept.{done_steps}
-use Rattle.plain.proofs.AwardSteps.{runs_on}
+use Rattle.plain.proofs.AwardSteps.{runs_on_lem}
 use Rattle.plain.proofs.Cover.{awards_all}
 use Rattle.plain.proofs.Covering.{covered, pays_least}
 
@@ -267,7 +267,7 @@ module _ (b : Book) (h : Sound b) (a : asked.Award) (sheet : ℕ) (e : refusal b
       ∙ sum_same (λ x. sum pick (buy_in_charges (next b award_call) x)) (λ x. sum pick (buy_in_charges b x)) new (λ x. ap (sum pick) (award_alike x))
       ∙ sym (sum_each pick (buy_in_charges b) new) in
       let taken = award_taken b a sheet e in
-      let on : b.auction.position ≡ a.position = (runs_on b a.position taken.running).1 in
+      let on : b.auction.position ≡ a.position = (runs_on_lem b a.position taken.running).1 in
       let offers_on : All (λ o. o.position ≡ a.position) b.auction.offers =
       all_of (OfferFits b.auction) (λ o. o.position ≡ a.position) b.auction.offers (λ o f. f.position ∙ on) h.auctioned.offers_fit in
       let fair = nth_all no_position (Fair b.opening.register.count b.day) b.positions a.position taken.held h.standing.fair in

@@ -27,7 +27,7 @@ use Rattle.plain.specs.Refusals.{refusal}
 use Rattle.plain.specs.Histories.{event_of, next, quantity}
 use Rattle.plain.specs.Cover.{takings, cost, awards_by, units_of, cost_of, Cheapest, added, Covered, buy_ins, PaysLeast}
 use Rattle.plain.proofs.Accepted.{award_taken}
-use Rattle.plain.proofs.AwardSteps.{runs_on}
+use Rattle.plain.proofs.AwardSteps.{runs_on_lem}
 use Rattle.plain.proofs.Cover.{awards_units, awards_cost, takings_total, cover, way_all, awards_all}
 
 -- EVERY AUCTION
@@ -53,7 +53,7 @@ module _ (b : Book) (a : asked.Award) (sheet : ℕ) (e : refusal b (call (event.
   award_covers =
       let new : added b (next b award_call) ≡ auction_awards b =
       ap (λ (l : List Award). drop (length b.awards) l) new_awards ∙ drop_added b.awards (auction_awards b) in
-      let on : b.auction.position ≡ a.position = (runs_on b a.position (award_taken b a sheet e).running).1 in
+      let on : b.auction.position ≡ a.position = (runs_on_lem b a.position (award_taken b a sheet e).running).1 in
       record {
         kept = rw new new_awards;
         reported = rw new new_units;
