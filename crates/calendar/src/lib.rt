@@ -32,26 +32,26 @@ const NO_BUSINESS_DAY: u8 = 29;
 const AFTER_2099: u8 = 30;
 
 // A year or a month, with the days left of it.
-#[derive(Drop)]
+#[derive(Clone, Copy)]
 struct Place {
     period: u32,
     left: u32,
 }
 
 // The next holiday of a walk from day to day: its place in the list and its calendar day.
-#[derive(Drop)]
+#[derive(Clone, Copy)]
 struct Upcoming {
     index: usize,
     day: CalendarDay,
 }
 
-#[derive(Drop)]
+#[derive(Clone, Copy)]
 pub enum DateAnswer {
     Date(u32),
     Refused(u8),
 }
 
-#[derive(Drop)]
+#[derive(Clone, Copy)]
 pub enum DayAnswer {
     Day(BusinessDay),
     Refused(u8),

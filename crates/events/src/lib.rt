@@ -10,7 +10,7 @@ ghost use Rattle.events.specs.Masks.{body_bytes, masks_of};
 
 // A member sells to another a quantity of a security. The kind of each side is kept as it stands in the file: 0 own, 1
 // client, and any other byte, which the book refuses.
-#[derive(Drop)]
+#[derive(Clone, Copy)]
 pub struct Trade {
     pub seller: u8,
     pub buyer: u8,
@@ -22,27 +22,27 @@ pub struct Trade {
 }
 
 // The latest price of a security.
-#[derive(Drop)]
+#[derive(Clone, Copy)]
 pub struct Price {
     pub security: u16,
     pub price: u32,
 }
 
 // A quantity delivered of a short.
-#[derive(Drop)]
+#[derive(Clone, Copy)]
 pub struct Delivery {
     pub position: u16,
     pub quantity: u32,
 }
 
 // A buy-in attempt, which opens the auction on a short.
-#[derive(Drop)]
+#[derive(Clone, Copy)]
 pub struct Attempt {
     pub position: u16,
 }
 
 // An offer in the auction on a short.
-#[derive(Drop)]
+#[derive(Clone, Copy)]
 pub struct Offer {
     pub position: u16,
     pub offerer: u8,
@@ -51,26 +51,26 @@ pub struct Offer {
 }
 
 // The award that ends the auction on a short.
-#[derive(Drop)]
+#[derive(Clone, Copy)]
 pub struct Award {
     pub position: u16,
 }
 
 // An award of today, by its number, is confirmed.
-#[derive(Drop)]
+#[derive(Clone, Copy)]
 pub struct Confirm {
     pub award: u16,
 }
 
 // A short is settled in cash.
-#[derive(Drop)]
+#[derive(Clone, Copy)]
 pub struct Cash {
     pub position: u16,
 }
 
 // A quantity of a short is set off against a long of the same member. The long is as wide as the price field that it stands in,
 // wider than the number of a position.
-#[derive(Drop)]
+#[derive(Clone, Copy)]
 pub struct PairOff {
     pub short: u16,
     pub long: u32,
@@ -78,7 +78,7 @@ pub struct PairOff {
 }
 
 // "An event is one of nine kinds, each with its own fields", and a tenth of document 02.
-#[derive(Drop)]
+#[derive(Clone, Copy)]
 pub enum Event {
     Trade(Trade),
     Price(Price),
@@ -94,7 +94,7 @@ pub enum Event {
 
 // The fields that a body has room for: the subject (a position, an award or a security), the seller or offerer, the
 // buyer, a quantity, a price, and the kinds of a trade's seller and buyer.
-#[derive(Drop)]
+#[derive(Clone, Copy)]
 pub struct Fields {
     pub subject: u16,
     pub first: u8,
@@ -106,7 +106,7 @@ pub struct Fields {
 }
 
 // Two masks: which bytes of a body are to be zero, of the first eight and of the last eight.
-#[derive(Drop)]
+#[derive(Clone, Copy)]
 struct Masks(u64, u64);
 
 pub const KINDS: u8 = 10;

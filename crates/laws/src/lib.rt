@@ -2,12 +2,12 @@
 
 // A business day by its number, counted from a book's day 1.
 // Document 01: "A business-day number is never taken for a calendar day."
-#[derive(Drop)]
+#[derive(Clone, Copy)]
 pub struct BusinessDay(pub u16);
 
 // A calendar day by its number, counted from 2000-01-01, which is 0.
 // Only the crate `calendar` turns one kind of day into the other.
-#[derive(Drop)]
+#[derive(Clone, Copy)]
 pub struct CalendarDay(pub u16);
 
 // The limits of document 01, as `specs/Limits.antt` has them.

@@ -3,34 +3,34 @@ use laws::{ACCOUNTS, BusinessDay};
 use register::Register;
 
 // What a book is opened with.
-#[derive(Drop)]
+#[derive(Clone, Copy)]
 pub struct Opening {
     pub register: Register,
 }
 
 // The latest price of a security and the day on which it was given; price 0 where it never had one.
-#[derive(Drop)]
+#[derive(Clone, Copy)]
 pub struct Latest {
     pub price: u32,
     pub day: BusinessDay,
 }
 
 // What the lookup of a security's latest price answers.
-#[derive(Drop)]
+#[derive(Clone, Copy)]
 pub enum LatestPrice {
     Never,
     Given(Latest),
 }
 
 // The kind of business that a side of a trade, and a position, belongs to: a member's own or its clients'.
-#[derive(Drop)]
+#[derive(Clone, Copy)]
 pub enum Kind {
     Own,
     Client,
 }
 
 // A member's netted quantity of a security in business of one kind, short or long.
-#[derive(Drop)]
+#[derive(Clone, Copy)]
 pub struct Position {
     pub member: u8,
     pub kind: Kind,
@@ -53,7 +53,7 @@ pub struct Position {
 }
 
 // How a piece discharges its two positions.
-#[derive(Drop)]
+#[derive(Clone, Copy)]
 pub enum Manner {
     Delivered,
     BoughtIn,
@@ -62,7 +62,7 @@ pub enum Manner {
 }
 
 // A share of a discharge: units of a short that are dealt out to a long.
-#[derive(Drop)]
+#[derive(Clone, Copy)]
 pub struct Piece {
     pub short: u16,
     pub long: u16,
@@ -72,7 +72,7 @@ pub struct Piece {
 }
 
 // What an offer was awarded in an auction on a short.
-#[derive(Drop)]
+#[derive(Clone, Copy)]
 pub struct Award {
     pub position: u16,
     pub offerer: u8,
@@ -82,14 +82,14 @@ pub struct Award {
 }
 
 // The accounts 0 to 63 as the cents that each was credited and debited in all: its balance is the difference.
-#[derive(Drop)]
+#[derive(Clone, Copy)]
 pub struct Ledger {
     pub credits: [u64; ACCOUNTS],
     pub debits: [u64; ACCOUNTS],
 }
 
 // What a call answers: its quantity, or the number of its refusal.
-#[derive(Drop)]
+#[derive(Clone, Copy)]
 pub enum Outcome {
     Done(u32),
     Refused(u8),

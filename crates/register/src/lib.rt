@@ -12,7 +12,7 @@ use laws::SECURITIES;
 
 // Securities are numbered from 1. The first `count` classes and the first 12 times `count` bytes of `isins` are the
 // register's; the others are 0.
-#[derive(Drop)]
+#[derive(Clone, Copy)]
 pub struct Register {
     pub count: u16,
     pub classes: [u8; SECURITIES],
@@ -20,7 +20,7 @@ pub struct Register {
 }
 
 // A refusal number, or 0 with the register. (An enum can't hold an array.)
-#[derive(Drop)]
+#[derive(Clone, Copy)]
 pub struct RegisterRead {
     pub number: u8,
     pub register: Register,

@@ -5,7 +5,7 @@ ghost use Rattle.rules.specs.Prices.{ceiling, raised, cash_price};
 ghost use Rattle.rules.specs.Charges.{rounded_half_up, fee, cash_fee, award_fine, late_fine, buy_in_charge};
 
 // The step that a day allows on a short besides delivery.
-#[derive(Drop)]
+#[derive(Clone, Copy)]
 pub enum Step {
     Nothing,
     Attempt,
@@ -18,7 +18,7 @@ pub const ATTEMPT: u8 = 4;
 pub const CASH: u8 = 8;
 
 // What a charge makes of an account: a debit, or a credit where the charge is negative.
-#[derive(Drop)]
+#[derive(Clone, Copy)]
 pub enum Amount {
     Debit(u64),
     Credit(u64),
