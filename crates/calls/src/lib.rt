@@ -29,7 +29,7 @@ pub use reading::{
 pub use trading::{price, trade};
 
 // What opening answers: a refusal number, or 0, and the core of a new book on the register that was read.
-#[derive(Drop)]
+#[derive(Clone, Copy)]
 pub struct Opened {
     pub number: u8,
     pub core: Core,

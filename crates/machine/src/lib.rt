@@ -15,7 +15,7 @@ use tables::{Auction, Marks, Prices};
 
 // The small parts of a book, and how many places of each table are in use. The first `netted` trades are of earlier days. All positions
 // before the place `late` are late, and from it on none is.
-#[derive(Drop)]
+#[derive(Clone, Copy)]
 pub struct Core {
     pub opening: Opening,
     pub day: BusinessDay,
@@ -30,7 +30,7 @@ pub struct Core {
 }
 
 // What a call answers: the core after it, its quantity or refusal, and how many pieces it wrote on its sheet.
-#[derive(Drop)]
+#[derive(Clone, Copy)]
 pub struct Answered {
     pub core: Core,
     pub outcome: Outcome,

@@ -11,26 +11,26 @@ use plain::{Award, LatestPrice, Position};
 use refusals::{NO_MEMBER, NOT_REGISTERED, NOT_THERE};
 
 // What the reads answer: what was asked for, or the number of a refusal.
-#[derive(Drop)]
+#[derive(Clone, Copy)]
 pub enum PositionAnswer {
     Found(Position),
     Refused(u8),
 }
 
-#[derive(Drop)]
+#[derive(Clone, Copy)]
 pub enum AwardAnswer {
     Found(Award),
     Refused(u8),
 }
 
-#[derive(Drop)]
+#[derive(Clone, Copy)]
 pub enum PriceAnswer {
     Found(LatestPrice),
     Refused(u8),
 }
 
 // A balance in cents, by its sign.
-#[derive(Drop)]
+#[derive(Clone, Copy)]
 pub enum BalanceAnswer {
     Credit(u64),
     Debit(u64),

@@ -17,14 +17,14 @@ use laws::{
 };
 
 // What is answered before any event is played: a refusal number, or 0, and the core of a new book.
-#[derive(Drop)]
+#[derive(Clone, Copy)]
 pub struct Checked {
     pub number: u8,
     pub core: Core,
 }
 
 // What replaying answers: a refusal number, or 0, and the book after the last event.
-#[derive(Drop)]
+#[derive(Clone, Copy)]
 pub struct Replayed {
     pub number: u8,
     pub book: Book,

@@ -7,14 +7,14 @@ use plain::Piece;
 
 // The latest price of each security, 0 where it never had one, and the day on which it was given: a column each, which are copied as a whole,
 // where an array of structs is copied field by field.
-#[derive(Drop)]
+#[derive(Clone, Copy)]
 pub struct Prices {
     pub latest: [u32; SECURITIES],
     pub days: [BusinessDay; SECURITIES],
 }
 
 // The auction on a short; position 0: none runs.
-#[derive(Drop)]
+#[derive(Clone, Copy)]
 pub struct Auction {
     pub position: u16,
     pub ceiling: u64,
@@ -23,14 +23,14 @@ pub struct Auction {
 }
 
 // The positions that an attempt was opened on today.
-#[derive(Drop)]
+#[derive(Clone, Copy)]
 pub struct Marks {
     pub items: [u16; ATTEMPTS],
     pub count: usize,
 }
 
 // The pieces of one discharge, for a caller that wants them by value.
-#[derive(Drop)]
+#[derive(Clone, Copy)]
 pub struct Pieces {
     pub items: [Piece; PLACES],
     pub count: usize,

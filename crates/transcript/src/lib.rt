@@ -21,7 +21,7 @@ use laws::{
 use plain::Outcome;
 
 // What the input answers before its first event: a refusal number, or 0; where its file begins; and the core of its register's new book.
-#[derive(Drop)]
+#[derive(Clone, Copy)]
 pub struct Started {
     pub number: u8,
     pub file: usize,
@@ -29,7 +29,7 @@ pub struct Started {
 }
 
 // What some events of a file made: the core after them, the place of the next event, and the bytes of their lines.
-#[derive(Drop)]
+#[derive(Clone, Copy)]
 pub struct Played {
     pub core: Core,
     pub next: usize,
