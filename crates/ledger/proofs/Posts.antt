@@ -6,7 +6,7 @@ use mathlib.Core.List.{List, [], ◌∷◌, ◌++◌}
 use Rattle.laws.specs.Listed.{sum_append}
 use Rattle.laws.specs.Integers.{total}
 use Rattle.plain.specs.declared.Ledger.{Ledger}
-use Rattle.plain.specs.Charging.{Charge, credited, debited, posted}
+use Rattle.plain.specs.Charging.{Charge, credited, debited, posted, raise}
 use Rattle.plain.specs.Sound.{cents}
 use Rattle.plain.proofs.Accounts.{posts_credits, posts_debits, posted_most, posted_places}
 use Rattle.ledger.specs.Posts.{Room}
@@ -20,12 +20,12 @@ debits_most = posted_most (λ l. l.debits) (λ c. c.payer) posts_debits
 credited_append : (l : List ℕ) (xs ys : List Charge) → credited (credited l xs) ys ≡ credited l (xs ++ ys)
 unfolding credited
 credited_append l [] ys = refl
-credited_append l (x ∷ xs) ys = credited_append _ xs ys
+credited_append l (x ∷ xs) ys = credited_append (raise l x.payee x.cents) xs ys
 
 debited_append : (l : List ℕ) (xs ys : List Charge) → debited (debited l xs) ys ≡ debited l (xs ++ ys)
 unfolding debited
 debited_append l [] ys = refl
-debited_append l (x ∷ xs) ys = debited_append _ xs ys
+debited_append l (x ∷ xs) ys = debited_append (raise l x.payer x.cents) xs ys
 
 -- one list of charges posted after another
 pub posted_append : (l : Ledger) (xs ys : List Charge) → posted (posted l xs) ys ≡ posted l (xs ++ ys)

@@ -13,14 +13,14 @@ use laws::{BusinessDay, MEMBERS, POSITION_CELLS, SECURITIES, TRADE_CELLS};
 use plain::{Kind, Position};
 
 // The side of a trade that a member stands on.
-#[derive(Drop)]
+#[derive(Clone, Copy)]
 enum Side {
     Sale,
     Purchase,
 }
 
 // The units that a member sold, or bought, of a security, and the highest price of those trades.
-#[derive(Drop)]
+#[derive(Clone, Copy)]
 struct Total {
     units: u32,
     highest: u32,

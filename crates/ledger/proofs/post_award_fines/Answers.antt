@@ -116,11 +116,11 @@ loop-i-preserved c =
     ⊎_elim
     (λ w. (
       rw (w.credits-is, w.debits-is, w.raise_place.ensures, w.raise_place-then-award_is_fined.ensures)
-          (posting_one _ _ _ _ _ (posting (record { before = record { before = record { before = record { before = c.before; if1 = w.0 }; class = w.1 }; value_of_lem = w.2 }; award-fine = w.3 }))),
+          (posting_one _ _ _ _ _ (posting (record { before = record { before = record { before = record { before = c.before; if-award_is_fined = w.if-award_is_fined }; class-1 = w.class-1 }; value_of = w.value_of }; award_fine-fine = w.award_fine-fine }))),
       omega arith,
     ))
     (λ w. (
-      rw (w.1, w.2) (place_none _ _ _ (long c.before.before.before.before.before.before.before.before.before) _ _ _ no_award c.loop-i-test.true (rw (← c.award_at-award.ensures) (award_free _ c.award_at-award.result c.row_at-short.result _ _ (position_at (table c.before.before.before.before.before.before.before.before.before) _ (awarded-at c.before.before.before.before.before.before).position ∙ sym c.row_at-short.ensures) (latest-of c.before.before.before.before) c.award_is_fined.ensures w.0.false)) c.loop-i.invariant.0),
+      rw (w.credits-is, w.debits-is) (place_none _ _ _ (long c.before.before.before.before.before.before.before.before.before) _ _ _ no_award c.loop-i-test.true (rw (← c.award_at-award.ensures) (award_free _ c.award_at-award.result c.row_at-short.result _ _ (position_at (table c.before.before.before.before.before.before.before.before.before) _ (awarded-at c.before.before.before.before.before.before).position ∙ sym c.row_at-short.ensures) (latest-of c.before.before.before.before) c.award_is_fined.ensures w.if-award_is_fined.false)) c.loop-i.invariant.0),
       omega arith,
     ))
     c.if-award_is_fined.branch-raw

@@ -9,20 +9,20 @@ use Rattle.ledger.proofs.post_buy_in.Tie as tie
 use Rattle.ledger.proofs.post_buy_in.Reads as reads
 
 abbrev In-Debit : Type 0
-In-Debit = lts.After-known_told tie.the-claims reads.Pre reads.Post
+In-Debit = lts.Past-After-known_told tie.the-claims reads.Pre reads.Post
 
 abbrev In-Credit : Type 0
-In-Credit = lts.After-known_told2 tie.the-claims reads.Pre reads.Post
+In-Credit = lts.Past-After-known_told2 tie.the-claims reads.Pre reads.Post
 
 debit : (c : In-Debit)
     → charge c.args.member (buy_in_charge c.args.quantity c.args.price c.args.reference)
-    ≡ record { payer = c.args.member; payee = 0; cents = c.amount-1.given.0.0 }
-debit c = charge_debit _ _ _ _ c.buy_in_charge-amount.ensures c.amount-1.given.1
+    ≡ record { payer = c.args.member; payee = 0; cents = c.in-Debit.cents }
+debit c = charge_debit _ _ _ _ c.buy_in_charge-amount.ensures c.in-Debit.is
 
 credit : (c : In-Credit)
     → charge c.args.member (buy_in_charge c.args.quantity c.args.price c.args.reference)
-    ≡ record { payer = 0; payee = c.args.member; cents = c.amount-in-Credit-1.given.0.0 }
-credit c = charge_credit _ _ _ _ c.buy_in_charge-amount.ensures c.amount-in-Credit-1.given.1
+    ≡ record { payer = 0; payee = c.args.member; cents = c.in-Credit.cents }
+credit c = charge_credit _ _ _ _ c.buy_in_charge-amount.ensures c.in-Credit.is
 
 pub post-requires : goal.post-requires
 post-requires c = rw (debit c.before.before) at c.requires

@@ -141,14 +141,14 @@ loop-i-preserved c =
     (λ w. (
       λ held day h.
           rw (w.credits-is, w.debits-is, w.raise_place.ensures, w.raise_place-then-short_is_fined.ensures)
-          (posting_one _ _ _ _ _ (posting (record { before = record { before = record { before = c.before; if1 = w.0 }; value_of_lem = w.1 }; late-fine = w.2 }) held day h)),
+          (posting_one _ _ _ _ _ (posting (record { before = record { before = record { before = c.before; if-short_is_fined = w.if-short_is_fined }; value_of = w.value_of }; late_fine-fine = w.late_fine-fine }) held day h)),
       less,
     ))
     (λ w. (
       λ held day h.
-          rw (w.1, w.2)
+          rw (w.credits-is, w.debits-is)
           (place_none _ _ _ (fits (start c.before.before.before.before.before) held day h) _ _ _ no_position (held_there (start c.before.before.before.before.before) held day h _ (below c.before.before.before.before.before))
-          (rw (← c.row_at-short.ensures) (late_free _ c.row_at-short.result _ _ _ (is_due c.before.before.before.before.before held day h) (class_of c.before.before.before.before.before) (latest-of c.before.before.before.before.before) c.short_is_fined.ensures w.0.false))
+          (rw (← c.row_at-short.ensures) (late_free _ c.row_at-short.result _ _ _ (is_due c.before.before.before.before.before held day h) (class_of c.before.before.before.before.before) (latest-of c.before.before.before.before.before) c.short_is_fined.ensures w.if-short_is_fined.false))
           (c.loop-i.invariant.0 held day h)),
       less,
     ))

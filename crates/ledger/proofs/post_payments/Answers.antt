@@ -12,7 +12,7 @@ use Rattle.rows.specs.Rows.{rows_of}
 use Rattle.pieces.specs.Sheet.{pieces_of, no_piece, sheet_with}
 use Rattle.pieces.proofs.Filled.{StaysFilled, stays_cents}
 use Rattle.tables.specs.Lent.{position_table}
-use Rattle.plain.specs.Charging.{priced_at}
+use Rattle.plain.specs.Charging.{Charge, priced_at}
 use Rattle.ledger.specs.Tabled.{Accounted, Paired}
 use Rattle.ledger.proofs.Posting.{Posting, PostingAt, ahead, credit_fits, debit_fits, posting_start, posting_one, place_some, place_end}
 use Rattle.ledger.proofs.Elements.{element, position_numbered}
@@ -54,6 +54,10 @@ owed : (y : In-loop-i) → let a = (start y).args in OwedBy a.payer (position_ta
 unfolding pieces
 owed y = rw (same y) (element (OwedBy _ _) _ _ no_piece _ (long (start y)) y.loop-i-test.true (start y).requires.0.owed)
 
+-- the charge that a piece makes
+abbrev charged_of : Start → Piece → List Charge
+charged_of s = payment_at s.args.price (position_table s.args.rows.now s.args.held)
+
 -- the long of the piece
 abbrev turn : After-row_at-long → In-loop-i
 turn r = r.before.before.before
@@ -76,7 +80,7 @@ posting : (r : After-row_at-long)
     (ledger_of y.loop-i.credits y.loop-i.debits)
 posting r =
     let y = turn r in
-    place_some _ _ _ (long (start y)) _ _ _ no_piece _ y.loop-i-test.true
+    place_some (charged_of (start y)) _ _ (long (start y)) _ _ _ no_piece _ y.loop-i-test.true
     (rw (← same y) (payment_here _ _ _ (piece_at y) _ _ (paired y) (owed y) (long-is r) r.units_at-units.ensures))
     y.loop-i.invariant.1
 
@@ -146,5 +150,5 @@ returns c =
         filled = λ t h. i.4 t h ∙ ap (λ (xs : List Piece). sheet_with xs t) priced;
         sheet_length = i.3;
       },
-      place_end _ _ _ (long c.before.before) _ _ _ c.loop-i-test.false i.1,
+      place_end (charged_of c.before.before) _ _ (long c.before.before) _ _ _ c.loop-i-test.false i.1,
     )

@@ -212,8 +212,8 @@ loop-i-preserved c =
     let within = in_table c.before in
     let more = walk_next _ _ _ _ _ _ _ (state (day-begun a).before c.if-units-gt0.rows c.if-units-gt0.sheet c.if-units-gt0.dealt c.if-units-gt0.left (a.loop-i.i + 1)) a.loop-i.invariant.0 within in (
       ⊎_elim
-          (λ w. more (stepped_some _ _ _ _ _ _ _ _ share w.if-units-gt0.true refl (omega (arith, a.loop-i.invariant.0.stands, within)) w.left-is refl (ap rows_of w.rows-is ∙ w.4.ensures.0) (ap pieces_of w.7 ∙ w.2.ensures.pieces) w.8))
-          (λ w. more (stepped_none _ _ _ _ _ _ (share ∙ omega (arith, w.0.false)) w.4 refl (ap rows_of w.1) (ap pieces_of w.2) w.3))
+          (λ w. more (stepped_some _ _ _ _ _ _ _ _ share w.if-units-gt0.true refl (omega (arith, a.loop-i.invariant.0.stands, within)) w.left-is refl (ap rows_of w.rows-is ∙ w.lower-then-units-gt0.ensures.0) (ap pieces_of w.sheet-is ∙ w.put_piece.ensures.pieces) w.dealt-is))
+          (λ w. more (stepped_none _ _ _ _ _ _ (share ∙ omega (arith, w.if-units-gt0.false)) w.left-is refl (ap rows_of w.rows-is) (ap pieces_of w.sheet-is) w.dealt-is))
           c.if-units-gt0.branch-raw,
       omega arith,
       λ e. absurd (omega arith),
@@ -221,12 +221,12 @@ loop-i-preserved c =
       ⊎_elim (λ w. ap length w.sheet-is ∙ w.put_piece.ensures.size) (λ w. ap length w.sheet-is ∙ a.loop-i.invariant.4) c.if-units-gt0.branch-raw,
       ⊎_elim
           (λ w. closed_taken _ _ _ _ _ _ _ (ap rows_of w.rows-is ∙ w.lower-then-units-gt0.ensures.0) (own-share c.before) (omega (arith, w.if-left-eq0.false)) (omega (arith, a.loop-i.invariant.0.stands, within)) a.loop-i.invariant.5)
-          (λ w. closed_passed _ _ _ _ _ _ (ap rows_of w.1) (own-share c.before) (omega (arith, w.0.false)) a.loop-i.invariant.6 a.loop-i.invariant.5)
+          (λ w. closed_passed _ _ _ _ _ _ (ap rows_of w.rows-is) (own-share c.before) (omega (arith, w.if-units-gt0.false)) a.loop-i.invariant.6 a.loop-i.invariant.5)
           c.if-units-gt0.branch-raw,
       ⊎_elim (λ w. omega (arith, w.left-is, w.if-left-eq0.false)) (λ w. omega (arith, w.left-is, a.loop-i.invariant.6)) c.if-units-gt0.branch-raw,
       ⊎_elim
           (λ w. stays_piece (day-begun a).deal.dealt _ a.loop-i.dealt _ a.loop-i.invariant.7 _ _ _ _ (omega (arith, a.loop-i.invariant.0.stands, within)) a.loop-i.invariant.4 w.put_piece.ensures w.sheet-is w.dealt-is)
-          (λ w. stays_same (day-begun a).deal.dealt _ a.loop-i.dealt _ a.loop-i.invariant.7 _ _ w.2 w.3)
+          (λ w. stays_same (day-begun a).deal.dealt _ a.loop-i.dealt _ a.loop-i.invariant.7 _ _ w.sheet-is w.dealt-is)
           c.if-units-gt0.branch-raw,
     )
 
@@ -263,16 +263,16 @@ returns-then-left-eq0 c =
     let last = state d.before c.lower-then-units-gt0.new.rows c.put_piece.new.sheet (a.loop-i.dealt + 1) (a.loop-i.left - (dealt-share c).share_of-units.result) (a.loop-i.i + 1) in
     let w =
     walk_join _ _ _ _ _ _ _ _ (so_far d)
-    (walk_next _ _ _ _ _ _ _ last a.loop.inv.0 within
-    (stepped_some _ _ _ _ _ _ _ _ share c.if-units-gt0.true refl (omega (arith, a.loop.inv.0.stands, within)) refl refl c.lower-then-units-gt0.ensures.0 c.put_piece.ensures.pieces refl)) in
+    (walk_next _ _ _ _ _ _ _ last a.loop-i.invariant.0 within
+    (stepped_some _ _ _ _ _ _ _ _ share c.if-units-gt0.true refl (omega (arith, a.loop-i.invariant.0.stands, within)) refl refl c.lower-then-units-gt0.ensures.0 c.put_piece.ensures.pieces refl)) in
     let out = dealt_out_lem d _ _ _ _ _ w.stands (walk_done _ _ _ _ _ _ _ w c.if-left-eq0.true) in
     let put = c.put_piece in
-    let room : a.loop.dealt < PLACES = omega (arith, a.loop.inv.0.stands, within) in
+    let room : a.loop-i.dealt < PLACES = omega (arith, a.loop-i.invariant.0.stands, within) in
     record {
       dealt = out;
-      filled = handed_fill _ _ _ _ _ _ out (piece_fills _ _ _ _ (a.loop.inv.7 _ (d.deal.invariant.5 _ refl)) _ room a.loop.inv.4 put.ensures);
+      filled = handed_fill _ _ _ _ _ _ out (piece_fills _ _ _ _ (a.loop-i.invariant.7 _ (d.deal.invariant.5 _ refl)) _ room a.loop-i.invariant.4 put.ensures);
       rows_length = c.lower-then-units-gt0.ensures.1;
       sheet_length = put.ensures.size;
-      within = omega (arith, a.loop.inv.0.stands.within);
-      closed = closed_changed _ a.loop.left _ _ _ _ _ _ d.row_at-own.ensures c.lower-then-units-gt0.ensures.0 refl a.loop.inv.5;
+      within = omega (arith, a.loop-i.invariant.0.stands.within);
+      closed = closed_changed _ a.loop-i.left _ _ _ _ _ _ d.row_at-own.ensures c.lower-then-units-gt0.ensures.0 refl a.loop-i.invariant.5;
     }
