@@ -54,13 +54,13 @@ module _ (x : After-is_client) where
   first_left =
       let s = reached.before.before in
       let i = reached.before.loop-place in
-      ap (some is_client) (today_next (table s) s.requires i.place i.invariant.0 reached.loop-test.taken read.trade-at.result read.trade-at.ensures)
+      ap (some is_client) (today_next (table s) s.requires i.place i.invariant.0 reached.loop-place-test.true read.trade_at.result read.trade_at.ensures)
       ∙ ap (λ (b : Bool). b || left (table s) (i.place + 1)) (sym x.is_client.ensures)
 
 pub returns-then-is_client : goal.returns-then-is_client
 returns-then-is_client c =
-    let here : left (table (reached c.before).before.before) (reached c.before).before.loop-place.place ≡ true = first_left c.before ∙ ap (λ (b : Bool). b || left (table (reached c.before).before.before) ((reached c.before).before.loop.place + 1)) c.if-is_client.true in
-    sym here ∙ (reached c.before).before.loop.invariant.2
+    let here : left (table (reached c.before).before.before) (reached c.before).before.loop-place.place ≡ true = first_left c.before ∙ ap (λ (b : Bool). b || left (table (reached c.before).before.before) ((reached c.before).before.loop-place.place + 1)) c.if-is_client.true in
+    sym here ∙ (reached c.before).before.loop-place.invariant.2
 
 pub overflow_add-place : goal.overflow_add-place
 overflow_add-place c = omega arith
@@ -71,8 +71,8 @@ loop-place-smaller c = omega arith
 pub loop-place-preserved : goal.loop-place-preserved
 loop-place-preserved c =
     let here : left (table (reached c.before).before.before) (reached c.before).before.loop-place.place ≡ left (table (reached c.before).before.before) ((reached c.before).before.loop-place.place + 1) =
-    first_left c.before ∙ ap (λ (b : Bool). b || left (table (reached c.before).before.before) ((reached c.before).before.loop.place + 1)) c.if-is_client.false in
-    (omega arith, omega arith, sym here ∙ (reached c.before).before.loop.invariant.2)
+    first_left c.before ∙ ap (λ (b : Bool). b || left (table (reached c.before).before.before) ((reached c.before).before.loop-place.place + 1)) c.if-is_client.false in
+    (omega arith, omega arith, sym here ∙ (reached c.before).before.loop-place.invariant.2)
 
 pub returns : goal.returns
 returns c =

@@ -12,7 +12,6 @@ use Rattle.rows.specs.Rows.{rows_of}
 use Rattle.netting.proofs.Filling.{Filling}
 use Rattle.netting.proofs.Appending.{each_from, run_table, run_start, run_next, run_appended, part_room, part_more, two_parts}
 use Rattle.netting.proofs.net_both.Goals as goal
-use Rattle.netting.proofs.net_both.Invariants.{own}
 use Rattle.netting.proofs.net_both.Lts as lts
 use Rattle.netting.proofs.net_both.Tie as tie
 use Rattle.netting.proofs.net_both.Reads as reads
@@ -32,6 +31,9 @@ rest y = each_from (made y) 63 (y.loop-member.member + 1)
 
 abbrev table : In-loop-member → List Position
 table y = let a = y.args in run_table (made y) 63 a.rows.now a.held
+
+abbrev own : In-loop-member → List Position
+own y = let a = y.args in kind_positions a.day.0 (totals_of a.own.now) a.securities y.loop-member.member Own
 
 abbrev clients : In-loop-member → List Position
 clients y = let a = y.args in kind_positions a.day.0 (totals_of a.client.now) a.securities y.loop-member.member Client

@@ -14,9 +14,6 @@ use Rattle.netting.proofs.Filling.{Filling}
 use Rattle.netting.proofs.Appending.{each_from, run_table, run_start, run_next, run_appended, part_room, part_more, two_parts}
 use Rattle.netting.proofs.net_both.Given as goal
 
-abbrev pub own : In-loop-member → List Position
-own y = let a = y.args in kind_positions a.day.0 (totals_of a.own.now) a.securities y.loop-member.member Own
-
 abbrev pub invariant-loop-member : goal.invariant-loop-member
 invariant-loop-member l =
     Filling (run_table (both_positions l.day.0 (totals_of l.own) (totals_of l.client) l.securities) 63 l.initial.rows l.held) (each_from (both_positions l.day.0 (totals_of l.own) (totals_of l.client) l.securities) 63 l.member) l.n (rows_of l.rows)

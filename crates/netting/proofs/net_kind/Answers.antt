@@ -89,7 +89,7 @@ pub loop-security-preserved : goal.loop-security-preserved
 loop-security-preserved c = (
   ⊎_elim
       (λ w. rw (ap rows_of w.rows-is ∙ w.put_row.ensures.0, w.n-is) (filling_more _ _ _ _ _ (next c.before.before.before _ w.position_of-position.ensures)))
-      (λ w. rw (w.1, w.2) (next c.before.before.before _ (net_none _ _ _ _ w.0.false)))
+      (λ w. rw (w.rows-is, w.n-is) (next c.before.before.before _ (net_none _ _ _ _ w.if-bought-sold.false)))
       c.if-bought-sold.branch-raw,
   omega arith,
   ⊎_elim (λ w. ap length w.rows-is ∙ w.put_row.ensures.1) (λ w. ap length w.rows-is ∙ c.loop-security.invariant.2) c.if-bought-sold.branch-raw,
