@@ -14,8 +14,14 @@ use calls::Core;
 use laws::{
     ACCOUNTS, AWARD_CELLS, COUNT_CELLS, POSITION_CELLS, SECURITIES, SHEET_CELLS, TRADE_CELLS,
 };
-use libc::{STDERR_FILENO, STDIN_FILENO, STDOUT_FILENO};
 use transcript::{END, INPUT};
+
+// The descriptors of the three standard streams.
+const STANDARD_INPUT: i32 = 0;
+
+const STANDARD_OUTPUT: i32 = 1;
+
+const STANDARD_ERROR: i32 = 2;
 
 // A page of the lines of all positions and accounts, which is enough for those of the longest event too.
 fn blank_page() -> [u8; END]
@@ -34,8 +40,8 @@ fn blank_input() -> [u8; INPUT]
 fn print_page(page: &[u8], used: usize)
     requires { used ≤ length page.now }
 {
-    if !io::write_all(STDOUT_FILENO, &page[..used]) {
-        io::write_all(STDERR_FILENO, b"player: the output could not be written\n");
+    if !io::write_all(STANDARD_OUTPUT, &page[..used]) {
+        io::write_all(STANDARD_ERROR, b"player: the output could not be written\n");
     }
 }
 
@@ -138,6 +144,6 @@ fn print_transcript(input: &[u8]) {
 // The largest input that is not refused has 35,238 bytes. Of a longer one the first `INPUT` print the same (`transcript/specs/Cut.antt`).
 fn main() {
     let mut input = blank_input();
-    let length = io::read_full(STDIN_FILENO, &mut input);
+    let length = io::read_full(STANDARD_INPUT, &mut input);
     print_transcript(&input[..length]);
 }
