@@ -53,4 +53,4 @@ unfolding due
 returns c =
     let e = own c.before.before in
     let r = ready e in
-    rw ((long r).if-q.false, le-leb _ _ r.if-day-q.false, eq-eqb _ _ e.if-q-p.left, eq-eqb _ _ (sym c.kind_number.ensures ∙ c.if-kind_number.false ∙ c.kind_number-2.ensures))
+    rw ((long r).if-q.false, le-leb _ _ r.if-day-q.false, eq-eqb _ _ e.if-q-p.false, eq-eqb _ _ (sym c.kind_number.ensures ∙ c.if-kind_number.false ∙ c.kind_number-2.ensures))

@@ -47,7 +47,7 @@ abbrev first-row : After-row_at-q → After-row_at-p
 first-row r = r.before.before
 
 abbrev looked : After-row_at-q → Else-missing-ne0
-looked r = (first-row r).before.before.before
+looked r = (first-row r).before.before
 
 pub returns-then-missing-ne0 : goal.returns-then-missing-ne0
 returns-then-missing-ne0 c =
@@ -70,7 +70,7 @@ row_at-q-requires c =
 pub unconfirmed_units-reserved-requires : goal.unconfirmed_units-reserved-requires
 unconfirmed_units-reserved-requires c =
     let s = start (looked c) in
-    countable (kept_of s.args.core (entry s)) s.pre.0.3.valid
+    countable (kept_of s.args.core (entry s)) s.requires.0.3.valid
 
 pub returns-then-number-ne0 : goal.returns-then-number-ne0
 returns-then-number-ne0 c =
@@ -81,7 +81,7 @@ returns-then-number-ne0 c =
 pub set_off-requires : goal.set_off-requires
 set_off-requires c =
     let s = start (looked c.before.before.before.before.before.before.before.before.before) in
-    (_, _, _, pairing s.args.core (entry s) s.pre.0.3 s.args.x _ _ _ _ (there (looked c.before.before.before.before.before.before.before.before.before)) (first-row c.before.before.before.before.before.before.before.before.before).row_at-p.ensures c.row_at-q.ensures c.unconfirmed_units-reserved.ensures c.pair_off_refusal-number.ensures c.if-number-ne0.false _ s.pre.1)
+    (_, _, _, pairing s.args.core (entry s) s.requires.0.3 s.args.x _ _ _ _ (there (looked c.before.before.before.before.before.before.before.before.before)) (first-row c.before.before.before.before.before.before.before.before.before).row_at-p.ensures c.row_at-q.ensures c.unconfirmed_units-reserved.ensures c.pair_off_refusal-number.ensures c.if-number-ne0.false _ s.requires.1)
 
 pub returns : goal.returns
 returns c =

@@ -106,7 +106,7 @@ taken e trades awards h =
 pub settle-requires : goal.settle-requires
 settle-requires c =
     let s = start (looked (read c.before.before.before.before.before.before.before.before.before)) in
-    ((s.requires.0.0, s.requires.0.1, taken c.before.before.before.before.before.before.before.before s.pre.0.0 s.pre.0.1 s.pre.0.2), terms c.before.before.before.before.before.before.before, s.requires.1)
+    ((s.requires.0.0, s.requires.0.1, taken c.before.before.before.before.before.before.before.before s.requires.0.0 s.requires.0.1 s.requires.0.2), terms c.before.before.before.before.before.before.before, s.requires.1)
 
 pub returns : goal.returns
 returns c =

@@ -64,7 +64,7 @@ taken e trades h =
 pub buy_in-requires : goal.buy_in-requires
 buy_in-requires c =
     let s = start (looked c.before.before.before.before.before.before.before.before.before.before) in
-    ((s.requires.0.0, taken c.before.before.before.before.before.before.before.before s.pre.0.0 s.pre.0.1), c.award_at-award.ensures, s.requires.1)
+    ((s.requires.0.0, taken c.before.before.before.before.before.before.before.before s.requires.0.0 s.requires.0.1), c.award_at-award.ensures, s.requires.1)
 
 pub returns : goal.returns
 returns c =

@@ -63,7 +63,7 @@ returns-then-number-ne0 c =
 pub discharge-made-requires : goal.discharge-made-requires
 discharge-made-requires c =
     let s = start (looked c.before.before.before.before.before.before.before.before.before.before) in
-    (_, delivering s.args.core (entry s) s.requires.0.2 s.args.d _ _ _ (there (looked c.before.before.before.before.before.before.before.before.before.before)) c.row_at-p.ensures c.unconfirmed_units-reserved.ensures c.delivery_refusal-number.ensures c.if-number-ne0.false _ s.pre.1)
+    (_, delivering s.args.core (entry s) s.requires.0.2 s.args.d _ _ _ (there (looked c.before.before.before.before.before.before.before.before.before.before)) c.row_at-p.ensures c.unconfirmed_units-reserved.ensures c.delivery_refusal-number.ensures c.if-number-ne0.false _ s.requires.1)
 
 pub returns : goal.returns
 returns c =
