@@ -2,12 +2,8 @@
 use Rattle.laws.specs.Limits.{SECURITIES}
 use Rattle.laws.specs.Zips.{zip_replicate}
 use Rattle.tables.specs.Tables.{dated, prices}
-use Rattle.calls.proofs.opening.no_prices.Statement.{statement}
-use Rattle.calls.proofs.opening.no_prices.Tie as tie
+use Rattle.calls.proofs.opening.no_prices.Goals as goal
 
-returns : tie.Need-returns
+pub returns : goal.returns
 unfolding prices
 returns c = zip_replicate dated SECURITIES 0 (record { 0 = 0 })
-
-pub no-prices-spec : {M : Type 1} → statement M
-no-prices-spec = tie.close (tie.spec returns)

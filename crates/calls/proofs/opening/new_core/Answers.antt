@@ -1,0 +1,19 @@
+-- `calls::opening::new_core` meets its contract.
+use mathlib.Core.Path.{refl}
+use borrow.Author.Rules.{rules}
+use Rattle.calls.proofs.Fresh.{opened}
+use Rattle.calls.proofs.opening.new_core.Goals as goal
+
+pub returns : goal.returns
+returns c =
+    λ numbers blank.
+    opened _
+    (record {
+      day = refl;
+      prices = c.no_prices-prices.ensures;
+      auction = c.no_auction-auction.ensures;
+      marks = c.no_marks-marks.ensures;
+      late = refl;
+      uses = (refl, refl, refl, refl);
+    })
+    numbers blank
