@@ -1,4 +1,2 @@
-pub mod Calling
-pub mod Elements
-pub mod Filling
-pub mod Overwriting
+mod Filling
+mod Overwriting
