@@ -24,7 +24,7 @@ pub struct Checked {
 }
 
 // What replaying answers: a refusal number, or 0, and the book after the last event.
-#[derive(Clone, Copy)]
+#[derive(Drop)]
 pub struct Replayed {
     pub number: u8,
     pub book: Book,
