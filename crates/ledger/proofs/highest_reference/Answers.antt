@@ -74,13 +74,12 @@ overflow_add-i c = omega arith
 pub loop-i-smaller : goal.loop-i-smaller
 loop-i-smaller c = omega arith
 
+-- The branch is left to the tactic, so that no name of the condition stands here.
 pub loop-i-preserved : goal.loop-i-preserved
 loop-i-preserved c =
     let y = turn c.before in
-    let step = highest_one _ _ _ (long (start y)) _ _ y.loop-i.invariant.0 no_piece _ y.loop-i-test.true in (
-      ⊎_elim (λ w. step (omega (arith, reference-is c.before, w.highest-is, w.if-highest-reference.true))) (λ w. step (omega (arith, reference-is c.before, w.highest-is, w.if-highest-reference.false))) c.if-highest-reference.branch-raw,
-      omega (arith, y.loop-i-test.true),
-    )
+    let step = highest_one _ _ _ (long (start y)) _ _ y.loop-i.invariant.0 no_piece _ y.loop-i-test.true in
+    (step (grind (arith, reference-is c.before)), omega (arith, y.loop-i-test.true))
 
 pub returns : goal.returns
 unfolding highest_long pieces
