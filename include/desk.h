@@ -1,5 +1,5 @@
 /*
- * The static library `desk` of the fails book: `rt staticlib desk` writes target/staticlib/libdesk.a.
+ * The static library `desk` of the fails book: `rt lib`, run in crates/desk, writes crates/desk/out/libdesk.a.
  *
  * Every function is proved to be its definition for all numbers and bytes, so none has a precondition on them. What C has to
  * keep to:
@@ -8,7 +8,7 @@
  *   to so many bytes that stay readable (of a page: writable) for the time of the call. Nothing is kept after it.
  * - A page must not overlap the bytes that are read in the same call. Two slices that are only read may overlap.
  * - There is no state, so functions may be called from several threads at once, each with pages of its own.
- * - Nothing is allocated. Measured on x86-64, desk_page takes some 180 KB of stack, desk_copy_file some 70 KB and every other
+ * - Nothing is allocated. Measured on x86-64, built with an older kit than today's, desk_page takes some 180 KB of stack, desk_copy_file some 70 KB and every other
  *   function under 5 KB.
  *
  * Functions that can refuse answer one number, which desk_refusal and desk_quantity take apart; desk_page answers in a way of

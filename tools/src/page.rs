@@ -15,7 +15,7 @@ use std::process::{Command, Output, Stdio};
 /// A page with room for the 1,024 positions that a book has at most, at 81 bytes a line.
 const MOST_BYTES: usize = 1_024 * 81;
 
-/// The page program at the repository's root, or where FAILS_PAGE says.
+/// The page program where `tools/build` leaves it, or where FAILS_PAGE says.
 pub fn path() -> PathBuf {
     match std::env::var_os("FAILS_PAGE") {
         Some(path) => path.into(),

@@ -13,11 +13,11 @@ pub fn root() -> PathBuf {
     }
 }
 
-/// The player at the repository's root, or where FAILS_PLAYER says.
+/// The player where `rt` leaves it, or where FAILS_PLAYER says.
 pub fn path() -> PathBuf {
     match std::env::var_os("FAILS_PLAYER") {
         Some(path) => path.into(),
-        None => root().join("target").join("bin").join("player"),
+        None => root().join("crates/player/out/player"),
     }
 }
 

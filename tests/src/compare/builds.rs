@@ -7,6 +7,7 @@ use super::same;
 use crate::check::{Check, Tests};
 use std::fs;
 use std::os::unix::fs::symlink;
+use std::path::PathBuf;
 use std::process::Command;
 use std::time::Duration;
 
@@ -15,58 +16,74 @@ struct Built {
     word: &'static str,
     name: &'static str,
     program: &'static str,
-    /// What `rt` is asked to do.
+    /// The last crate, and what `rt` is asked to do in its folder.
+    last_crate: &'static str,
     rt: &'static str,
-    /// What `rt` prints where the last crate is proved, what is said then, and what it prints where none has changed.
-    proved: &'static str,
-    shown: &'static str,
+    /// What `rt` prints where no crate has changed.
     unchanged: &'static str,
     /// The commands that it needs, in the order in which they are looked for.
     commands: &'static [&'static str],
     /// What has not written the program where it is missing in the end.
     last: &'static str,
-    /// Files that it is built from, and one that it is not.
+    /// Files that it is built from, and some that it is not.
     sources: &'static [&'static str],
-    other: &'static str,
+    others: &'static [&'static str],
 }
 
 const PLAYER: Built = Built {
     word: "player",
     name: "the player",
-    program: "target/bin/player",
-    rt: "check player",
-    proved: "rt: player proved (3 s)",
-    shown: "play: player proved in 3 s: 3 of 3 crates, 0 left",
-    unchanged: "rt: ok, 3 crates proved",
+    program: "crates/player/out/player",
+    last_crate: "player",
+    rt: "run",
+    unchanged: "rt: nothing has changed since the last proved build, by out/player.stamp, so nothing is checked now",
     commands: &["rt"],
-    last: "rt check player",
+    last: "rt run",
     sources: &["crates/laws/src", "crates.txt"],
-    other: "examples/page.c",
+    others: &["examples/page.c", MADE],
 };
-
-const LIBRARY: &str = "rt: target/staticlib/libdesk.a has the functions of desk that are marked";
 
 const PAGE: Built = Built {
     word: "page",
     name: "the page program",
     program: "target/page",
-    rt: "staticlib desk",
-    proved: LIBRARY,
-    shown: "play: desk proved: 3 of 3 crates, 0 left",
-    unchanged: LIBRARY,
+    last_crate: "desk",
+    rt: "lib",
+    // The crate of a static library is looked at each time.
+    unchanged: "\
+rt: chose --jobs 2 for desk
+fn desk::desk_step: proved
+library laws: modules loaded=18 checked=0
+crate desk: modules loaded=34 checked=0
+logic=proved functions=1 sum=0 incremental=trusted",
     commands: &["rt", "gcc"],
     last: "gcc",
     sources: &["crates/laws/src", "crates.txt", "include/desk.h", "examples/page.c"],
-    other: "examples/desk.c",
+    others: &["examples/desk.c", MADE],
 };
+
+/// What `rt` makes in a crate's folder is no source.
+const MADE: &str = "crates/laws/out/rlib/stamp";
 
 const CRATES: &[u8] = b"# Each crate with the crates that it uses.
 laws:
 words: laws
 unused: laws
-player: laws words libc
-desk: words laws
+player: laws words io
+desk staticlib: words laws  # for C
 ";
+
+/// What `rt` prints where a crate is proved in so many seconds.
+fn proved(name: &str, seconds: u32) -> String {
+    format!(
+        "\
+echo 'rt: chose --jobs 2 for {name}'; sleep {seconds}
+echo 'fn {name}::first: proved'
+echo 'crate {name}: modules loaded=1 checked=39'
+echo 'logic=proved functions=1 sum=0 incremental=trusted'
+"
+    )
+}
 
 pub fn exhaustive(tests: &mut Tests) {
     for built in [PLAYER, PAGE] {
@@ -74,6 +91,7 @@ pub fn exhaustive(tests: &mut Tests) {
             let tree = Tree::new(built);
             first_run(check, &tree);
             newer_sources(check, &tree);
+            some_unchanged(check, &tree);
             failures(check, &tree);
             missing_commands(check, &tree);
         });
@@ -97,7 +115,7 @@ struct Tree {
 impl Tree {
     fn new(built: Built) -> Tree {
         let scratch = Scratch::new(&format!("build-{}", built.word));
-        for folder in ["tools", "crates/laws", "include", "examples", "bin"] {
+        for folder in ["tools", "crates/laws/out/rlib", "crates/player", "crates/desk", "include", "examples", "bin"] {
             scratch.folder(folder);
         }
         for file in ["crates/laws/src", "include/desk.h", "examples/page.c", "examples/desk.c"] {
@@ -109,17 +127,26 @@ impl Tree {
         Tree { scratch, built }
     }
 
-    /// Runs the script with an `rt` and a `gcc` of these lines, which first write down what they are asked to do.
+    /// Runs the script with an `rt` and a `gcc` of these lines, which first write down what they are asked to do, and `rt` also
+    /// in which folder of crates/. `rt run` prints on standard error.
     fn run(&self, rt: &str, gcc: &str) -> Ended {
-        self.scratch.program("bin/rt", &format!("echo \"rt $*\" >>asked\n{rt}"));
-        self.scratch.program("bin/gcc", &format!("echo \"gcc $*\" >>asked\n{gcc}"));
+        let asked = self.asked_file();
+        let asked = asked.display();
+        let prints = if self.built.rt == "run" { "exec >&2" } else { "" };
+        let rt = format!("echo \"(cd crates/${{PWD##*/crates/}} && rt $*)\" >>'{asked}'\n{prints}\n{rt}");
+        self.scratch.program("bin/rt", &rt);
+        self.scratch.program("bin/gcc", &format!("echo \"gcc $*\" >>'{asked}'\n{gcc}"));
         let path = format!("{}:{}", self.scratch.0.join("bin").display(), std::env::var("PATH").unwrap_or_default());
         ended(Command::new(self.scratch.0.join("tools/build")).arg(self.built.word).env("PATH", path), b"")
     }
 
+    fn asked_file(&self) -> PathBuf {
+        self.scratch.0.join("asked")
+    }
+
     /// What `rt` and `gcc` were asked to do since this was asked last.
     fn asked(&self) -> String {
-        let file = self.scratch.0.join("asked");
+        let file = self.asked_file();
         let asked = fs::read_to_string(&file).unwrap_or_default();
         // Where there is none, nothing was asked.
         let _ = fs::remove_file(&file);
@@ -129,13 +156,19 @@ impl Tree {
     /// What they are asked to do in a whole build: the README's own line for the C program.
     fn whole(&self) -> String {
         let gcc = gcc_lines().filter(|line| self.built.word == "page" && line.contains("examples/page.c"));
-        [format!("rt {}", self.built.rt)].into_iter().chain(gcc.map(str::to_string)).map(|line| line + "\n").collect()
+        [self.rt_line()].into_iter().chain(gcc.map(str::to_string)).map(|line| line + "\n").collect()
+    }
+
+    /// What `rt` is asked to do, and where.
+    fn rt_line(&self) -> String {
+        format!("(cd crates/{} && rt {})", self.built.last_crate, self.built.rt)
     }
 
     /// The command with which `rt` writes the player, and `gcc` the page program.
     fn writes(&self, command: &str) -> String {
         if self.built.commands.last() == Some(&command) {
-            format!("mkdir -p target/bin && cp /bin/true {}", self.built.program)
+            let program = self.scratch.0.join(self.built.program);
+            format!("mkdir -p \"$(dirname '{0}')\" && cp /bin/true '{0}'", program.display())
         } else {
             String::new()
         }
@@ -151,20 +184,40 @@ impl Tree {
 }
 
 fn first_run(check: &mut Check, tree: &Tree) {
-    let Built { name, proved, shown, .. } = tree.built;
-    let writes = tree.writes("rt");
-    let rt = format!("echo 'rt: laws proved (1 s)'; echo 'rt: words proved (2 s)'; echo '{proved}'; {writes}");
+    let Built { name, last_crate, .. } = tree.built;
+    // Before anything is proved `rt` may look through all sources.
+    let looks = "echo 'only=0 proved=0'\n".to_string();
+    let rt = [looks, proved("laws", 0), proved("words", 1), proved(last_crate, 0), tree.writes("rt")].concat();
     let shown = format!(
         "\
 play: building {name}; all of it is proved first, which takes some minutes
-play: laws proved in 1 s: 1 of 3 crates, 2 left
-play: words proved in 2 s: 2 of 3 crates, 1 left
-{shown}
+play: laws proved in its time: 1 of 3 crates, 2 left
+play: words proved in its time: 2 of 3 crates, 1 left
+play: {last_crate} proved in its time: 3 of 3 crates, 0 left
 "
     );
-    let found = tree.run(&rt, &tree.writes("gcc"));
+    let (found, seconds) = timed(tree.run(&rt, &tree.writes("gcc")));
     same(check, || "the first run".to_string(), found, Ended { errors: shown, ..Ended::well("") });
+    let of_words = seconds.get(1).is_some_and(|&seconds| seconds >= 1);
+    same(check, || format!("the first run's times: {seconds:?}"), (seconds.len(), of_words), (3, true));
     same(check, || "what the first run asks for".to_string(), tree.asked(), tree.whole());
+}
+
+/// How a run ended, without the seconds that it says each crate took, and those.
+fn timed(ended: Ended) -> (Ended, Vec<u64>) {
+    let mut all = Vec::new();
+    let mut errors = String::new();
+    for line in ended.errors.split_inclusive('\n') {
+        let parts = line.split_once(" proved in ").and_then(|(before, rest)| Some((before, rest.split_once(" s: ")?)));
+        match parts.and_then(|(before, (seconds, after))| Some((before, seconds.parse().ok()?, after))) {
+            Some((before, seconds, after)) => {
+                all.push(seconds);
+                errors += &format!("{before} proved in its time: {after}");
+            }
+            None => errors += line,
+        }
+    }
+    (Ended { errors, ..ended }, all)
 }
 
 /// Where a source is newer all is asked for again, and nothing is said where nothing is proved again.
@@ -172,17 +225,39 @@ fn newer_sources(check: &mut Check, tree: &Tree) {
     let fails = "exit 1";
     same(check, || "nothing is newer".to_string(), tree.run(fails, fails), Ended::well(""));
     same(check, || "nothing is newer".to_string(), tree.asked(), String::new());
-    tree.newer(tree.built.other);
-    same(check, || tree.built.other.to_string(), tree.run(fails, fails), Ended::well(""));
-    same(check, || tree.built.other.to_string(), tree.asked(), String::new());
-    let unchanged =
-        format!("echo 'rt: laws proved (unchanged since it was last proved)'; echo '{}'", tree.built.unchanged);
+    for other in tree.built.others {
+        tree.newer(other);
+        same(check, || other.to_string(), tree.run(fails, fails), Ended::well(""));
+        same(check, || other.to_string(), tree.asked(), String::new());
+    }
+    let unchanged = format!("echo '{}'", tree.built.unchanged);
     for source in tree.built.sources {
         tree.newer(source);
         same(check, || source.to_string(), tree.run(&unchanged, ""), Ended::well(""));
         same(check, || source.to_string(), tree.asked(), tree.whole());
         same(check, || format!("{source}, again"), tree.run(fails, fails), Ended::well(""));
         same(check, || format!("{source}, again"), tree.asked(), String::new());
+    }
+}
+
+/// Of crates that have not changed `rt` says nothing, or that none of their modules was checked: they are counted alone.
+fn some_unchanged(check: &mut Check, tree: &Tree) {
+    let Built { name, last_crate, .. } = tree.built;
+    let unchanged = |name| proved(name, 0).replace("loaded=1 checked=39", "loaded=40 checked=0");
+    let cases = [
+        ([proved("words", 0), unchanged(last_crate)], "words proved in its time: 2 of 3 crates, 1 left"),
+        (
+            [unchanged("words"), proved(last_crate, 0)],
+            &format!("{last_crate} proved in its time: 3 of 3 crates, 0 left"),
+        ),
+    ];
+    for (rt, shown) in cases {
+        tree.newer("crates/laws/src");
+        let (found, _) = timed(tree.run(&rt.concat(), ""));
+        let errors =
+            format!("play: building {name}; all of it is proved first, which takes some minutes\nplay: {shown}\n");
+        same(check, || format!("some are unchanged: {shown}"), found, Ended { errors, ..Ended::well("") });
+        same(check, || format!("some are unchanged: {shown}"), tree.asked(), tree.whole());
     }
 }
 
@@ -195,9 +270,10 @@ fn failures(check: &mut Check, tree: &Tree) {
         same(check, || format!("{words:?}: {}", found.errors), said, (Some(1), true));
     };
     let failed = format!("play: {name} could not be built; the lines above are the end of ");
-    let found = tree.run("echo 'rt: laws proved (1 s)'; echo 'words: not proved'; exit 1", "");
-    says(check, found, &["words: not proved\n", &failed]);
-    same(check, || "rt failed".to_string(), tree.asked(), format!("rt {}\n", tree.built.rt));
+    let rt = "echo 'rt: chose --jobs 2 for words'; echo 'fn words::first: no proof'; echo 'logic=not-proved'; exit 1";
+    let found = tree.run(&(proved("laws", 0) + rt), "");
+    says(check, found, &["fn words::first: no proof\n", &failed]);
+    same(check, || "rt failed".to_string(), tree.asked(), tree.rt_line() + "\n");
     if commands.contains(&"gcc") {
         let found = tree.run("", "echo 'page.c: not C' >&2; exit 1");
         says(check, found, &["page.c: not C\n", &failed]);
