@@ -81,7 +81,7 @@ loop-i-preserved c =
     let same : row ≡ get_or (rows_of a.rows.now) k.i no_position = c.row_at-position.ensures in
     let here : page_line isins (k.i + 1) row ≡ shown isins a.rows.now a.count (get_or (range 1 a.count) k.i 0) = ap (page_line isins (k.i + 1)) same ∙ position_here (page_line isins) table k.i c.loop-i-test.true in
     let bytes : length (page_line isins (k.i + 1) row) ≡ LINE = rw same (legible isins (k.i + 1) _ (h.fits k.i c.loop-i-test.true) (length_isin isins _ h.isins_long (h.security k.i c.loop-i-test.true))).bytes in
-    next_lines _ _ _ k.page k.i k.invariant c.loop-i-test.true (page_line isins (k.i + 1) row) d.new.page here bytes d.auto.0 d.ensures
+    next_lines _ _ _ k.page k.i k.invariant c.loop-i-test.true (page_line isins (k.i + 1) row) d.new.page here bytes d.auto.page d.ensures
 
 pub shape_of-page : goal.shape_of-page
 shape_of-page c = c.loop-i.invariant.long

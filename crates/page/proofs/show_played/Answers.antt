@@ -51,7 +51,7 @@ play-after-requires c =
 abbrev left : After-play-after → Numbers
 left p =
     let x = p.play-after.new in
-    numbers x.rows.0 x.1.1.0 x.1.1.1.0 x.1.1.1.1.0 x.1.1.1.1.1.0 x.1.1.1.1.1.1.0 (ledger_of x.1.1.1.1.1.1.1.0 x.1.1.1.1.1.1.1.1.0)
+    numbers x.rows x.trades x.awards x.counts x.starts x.words (ledger_of x.credits x.debits)
 
 pub show_positions-requires : goal.show_positions-requires
 show_positions-requires c = (left c.before.before.before, c.play-after.ensures.0.held)
@@ -60,10 +60,8 @@ pub returns : goal.returns
 returns c =
     let d = c.show_positions in
     let p = played c.before in
-    let e = p.before.before.before.before.before.before.before.before.before.before in
-    let n = e.before in
-    let file = (start n).args.file.now in
-    let all = take_all e.events_in-count.result (events_of file) (omega (arith, e.events-in.ensures)) in
+    let n = p.before.before.before.before.before.before.before.before.before.before.before in
+    let all = take_all c.events_in-count.result (events_of c.args.file.now) (omega (arith, c.events_in-count.ensures)) in
     λ b opens.
     let same = p.play-after.ensures.0.book ∙ ap₂ (λ (x : plain.Book) (es : List Event). run x (calls_of es)) (opens (tables n) (blank n)) all in
-    subst (λ (x : plain.Book). Shown x (start n).args.page.now d.new.0 d.result) same (d.ensures (left p))
+    subst (λ (x : plain.Book). Shown x c.args.page.now d.new.page d.result) same (d.ensures (left p))

@@ -14,4 +14,4 @@ print_events-after-requires c = (
 pub print_end-requires : goal.print_end-requires
 print_end-requires c =
     let x = c.print_events-after.new in
-    ((numbers x.1.1.1.0 x.1.1.1.1.0 x.1.1.1.1.1.0 x.1.1.1.1.1.1.0 x.1.1.1.1.1.1.1.0 x.1.1.1.1.1.1.1.1.0 (ledger_of x.1.1.1.1.1.1.1.1.1.0 x.1.1.1.1.1.1.1.1.1.1.0), c.print_events-after.ensures.0.held), c.print_events-after.ensures.1)
+    ((numbers x.rows x.trades x.awards x.counts x.starts x.words (ledger_of x.credits x.debits), c.print_events-after.ensures.0.held), c.print_events-after.ensures.1)
