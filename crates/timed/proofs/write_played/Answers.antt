@@ -54,17 +54,17 @@ slice_bounds-end_lines-end c = omega arith
 pub end_lines-requires : goal.end_lines-requires
 end_lines-requires c =
     let x = c.write_events-written.new in
-    (numbers x.core.1.1.0 x.1.1.1.1.0 x.1.1.1.1.1.0 x.1.1.1.1.1.1.0 x.1.1.1.1.1.1.1.0 x.1.1.1.1.1.1.1.1.0 (ledger_of x.1.1.1.1.1.1.1.1.1.0 x.1.1.1.1.1.1.1.1.1.1.0), c.write_events-written.ensures.0)
+    (numbers x.rows x.trades x.awards x.counts x.starts x.words (ledger_of x.credits x.debits), c.write_events-written.ensures.0)
 
 pub overflow_add-result : goal.overflow_add-result
 overflow_add-result c =
     let x = c.write_events-written.new in
-    omega (arith, c.write_events-written.ensures.3, (c.end_lines.ensures (numbers x.core.1.1.0 x.1.1.1.1.0 x.1.1.1.1.1.0 x.1.1.1.1.1.1.0 x.1.1.1.1.1.1.1.0 x.1.1.1.1.1.1.1.1.0 (ledger_of x.1.1.1.1.1.1.1.1.1.0 x.1.1.1.1.1.1.1.1.1.1.0))).most)
+    omega (arith, c.write_events-written.ensures.3, (c.end_lines.ensures (numbers x.rows x.trades x.awards x.counts x.starts x.words (ledger_of x.credits x.debits))).most)
 
 pub returns : goal.returns
 returns c =
     let x = c.write_events-written.new in
-    let w = c.end_lines.ensures (numbers x.core.1.1.0 x.1.1.1.1.0 x.1.1.1.1.1.0 x.1.1.1.1.1.1.0 x.1.1.1.1.1.1.1.0 x.1.1.1.1.1.1.1.1.0 (ledger_of x.1.1.1.1.1.1.1.1.1.0 x.1.1.1.1.1.1.1.1.1.1.0)) in
+    let w = c.end_lines.ensures (numbers x.rows x.trades x.awards x.counts x.starts x.words (ledger_of x.credits x.debits)) in
     let put = ended _ _ _ _ _ _ _ _ (room c.before.before.before.before.before.before.before.before.before.before.before) c.write_events-written.ensures.1 w in (
       λ b opens. put_text _ _ _ _ _ (ap (λ (b : plain.Book). left (events_of c.args.file.now) b 0) (opens (tables c.before.before.before.before.before.before.before.before.before.before.before.before.before.before.before.before.before.before.before.before.before.before) (blank c.before.before.before.before.before.before.before.before.before.before.before.before.before.before.before.before.before.before.before.before.before.before))) put,
       omega (arith, c.write_events-written.ensures.2, w.most),
