@@ -1,4 +1,6 @@
 // How the static libraries answer a refusal number and a quantity: as one number, since a struct does not cross their boundary.
+#![tactic(auto)]
+
 ghost use Rattle.std.specs.Prelude.{◌≡◌};
 ghost use Rattle.answers.specs.Packed as definition;
 

@@ -1,4 +1,6 @@
 // An auction from its attempt over the offers to the award.
+#![tactic(auto)]
+
 mod refusal;
 
 ghost use Rattle.std.specs.Prelude.{◌<◌, ◌≡◌, length};

@@ -1,5 +1,7 @@
 // The fails book as one value: a core with its tables of numbers, whose fields only this crate can change. `step` lends local copies of the
 // tables to the event's call in place (`calls`) and puts them back, and each call is `step` of its event.
+#![tactic(auto)]
+
 ghost use Rattle.std.specs.Prelude.{◌≡◌, [], false, length};
 ghost use Rattle.events.specs.declared.Event.TheVariants as event;
 ghost use Rattle.plain.specs.declared.Outcome.TheVariants as outcome;

@@ -1,4 +1,6 @@
 // Dates and business days (document 01, 'Calendar'). A date is one number, yyyymmdd; holidays are bytes, four a date, little-endian.
+#![tactic(auto)]
+
 ghost use Rattle.std.specs.Prelude.{◌≡◌, true, not, ◌&&◌, ◌+◌, ◌-◌, ◌*◌, ◌≤◌, ◌<◌, ltb, eqb, length};
 ghost use Rattle.laws.specs.Lists.{every, range, filter};
 ghost use Rattle.laws.specs.Refusals.{first};

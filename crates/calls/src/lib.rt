@@ -1,6 +1,8 @@
 // The ten calls in place, the way in: opening, the calls of `trading`, `auctions`, `discharges` and `closing`, the reads of `reading`, and `step`, which plays
 // an event by the call of its kind. A call takes what it needs of the lent numbers; of the others its contract says that they may be any with which the core is
 // held. A discharge changes no part of the core.
+#![tactic(auto)]
+
 mod opening;
 
 ghost use Rattle.std.specs.Prelude.{length, ◌≡◌};

@@ -1,4 +1,6 @@
 // The close of a day.
+#![tactic(auto)]
+
 ghost use Rattle.std.specs.Prelude.{ℕ, ◌+◌, ◌<◌, ◌≡◌, List};
 ghost use Rattle.laws.specs.Limits.{LAST_DAY};
 ghost use Rattle.events.specs.declared.Event.TheVariants as event;

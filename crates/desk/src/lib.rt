@@ -1,5 +1,7 @@
 // The static library for C and Rust: what a desk calls, on numbers and byte slices. None has a `requires`. A refusal number and a quantity are
 // answered as one number (`answers`).
+#![tactic(auto)]
+
 ghost use Rattle.std.specs.Prelude.{◌≡◌, [], ◌∷◌, length};
 ghost use Rattle.laws.specs.Refusals.{accepted};
 ghost use Rattle.rules.specs.Windows.{step_on, step_kind};

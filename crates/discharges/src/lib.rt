@@ -1,4 +1,6 @@
 // The discharges of a short, in place: delivered, bought in when an award is confirmed, and settled in cash.
+#![tactic(auto)]
+
 mod discharge;
 mod refusal;
 

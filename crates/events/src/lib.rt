@@ -1,5 +1,6 @@
 // Events: the ten kinds of event, and the body of sixteen bytes that each is read from and written to.
 // Document 01, 'Event files and the player', and document 02, Slip 7.
+#![tactic(auto)]
 
 ghost use Rattle.std.specs.Prelude.{◌≡◌, ◌+◌, ◌≤◌, ◌<◌, length, get_or, take, drop};
 ghost use Rattle.std.proofs.lemmas.List.Edits.{sets};

@@ -1,6 +1,8 @@
 // The failing members of each security, kept as a word of 64 bits, one bit a member, and how many late open shorts each of them holds. Words
 // and counts are lent, and changed where they stand.
 // Document 01, 'Auction'.
+#![tactic(auto)]
+
 ghost use Rattle.std.specs.Prelude.{◌≡◌, ◌&&◌, List, ℕ, ◌+◌, ◌≤◌, ◌<◌, ltb, length, get_or};
 ghost use Rattle.laws.specs.Limits.{COUNT_CELLS, MEMBERS, POSITIONS, SECURITIES};
 ghost use Rattle.plain.specs.declared.Position as plain;

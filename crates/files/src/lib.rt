@@ -1,5 +1,6 @@
 // Event files: reading and writing a file of events, and why one is refused.
 // Document 01, 'Event files and the player', and document 02, Slip 7.
+#![tactic(auto)]
 
 ghost use Rattle.std.specs.Prelude.{◌≡◌, map, ◌+◌, ◌≤◌, min, length, get_or, take, drop, replicate};
 ghost use Rattle.std.proofs.lemmas.List.Edits.{sets};

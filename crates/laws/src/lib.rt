@@ -1,4 +1,5 @@
 // Definitions and laws that more than one crate cites, the limits of document 01, and the two kinds of day. It has no function.
+#![tactic(auto)]
 
 // A business day by its number, counted from a book's day 1.
 // Document 01: "A business-day number is never taken for a calendar day."

@@ -1,5 +1,7 @@
 // Posting charges on the accounts: each raises the payee's credits and the payer's debits. The two columns of the ledger are lent, and
 // changed where they stand. The tables that charges go by are numbers that a caller lends, too.
+#![tactic(auto)]
+
 ghost use Rattle.std.specs.Prelude.{◌≡◌, not, ◌&&◌, [], ◌∷◌, ℕ, ◌+◌, ◌<◌, ◌≤◌, eqb, ltb, length, get_or};
 ghost use Rattle.laws.specs.Limits.{ACCOUNTS, SHEET_CELLS};
 ghost use Rattle.rules.specs.Charges.{buy_in_charge};

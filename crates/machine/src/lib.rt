@@ -1,6 +1,8 @@
 // The core of a book in place, and what all calls do with it. The core goes in and comes back by value; the tables of positions, trades and awards, the
 // counts of late open shorts, the places where walks start, the words of failing members and the accounts are numbers that a caller lends. The core's
 // fields are public: what protects a call is that it asks for a core and numbers that are held (`Held`), which opening and every call leave.
+#![tactic(auto)]
+
 ghost use Rattle.std.specs.Prelude.{◌≤◌, ◌≡◌, length};
 ghost use Rattle.laws.specs.Limits.{SECURITIES};
 ghost use Rattle.laws.specs.Asked.{Within};

@@ -1,4 +1,6 @@
 // Document 01, 'Trades and netting', and document 02, Slip 5: the positions that a day's trades make, put into the lent table of positions.
+#![tactic(auto)]
+
 ghost use Rattle.std.specs.Prelude.{◌≡◌, ◌∷◌, [], ◌<◌, ◌≤◌, max, length, get_or, set};
 ghost use Rattle.laws.specs.Lists.{each, range, some};
 ghost use Rattle.laws.specs.Limits.{MEMBERS, POSITION_CELLS};

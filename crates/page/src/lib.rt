@@ -1,5 +1,7 @@
 // The desk's page: the positions at the end of a file, a line of 80 columns and a line feed each, in the first bytes of a page that the caller
 // lends. Document 02, Slips 1 and 5.
+#![tactic(auto)]
+
 ghost use Rattle.std.specs.Prelude.{◌≡◌, [], ◌++◌, ◌+◌, ◌-◌, ◌*◌, ◌≤◌, length, drop};
 ghost use Rattle.std.proofs.lemmas.List.Edits.{sets};
 ghost use Rattle.laws.specs.Limits.{SECURITIES};

@@ -1,4 +1,6 @@
 // A short set off against a long of the same member. Document 02, Slip 7.
+#![tactic(auto)]
+
 ghost use Rattle.std.specs.Prelude.{ℕ, ◌-◌, ◌≡◌, List, length};
 ghost use Rattle.laws.specs.Limits.{PLACES, SHEET_CELLS};
 ghost use Rattle.events.specs.declared.Event.TheVariants as event;

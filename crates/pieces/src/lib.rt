@@ -1,4 +1,6 @@
 // The sheet of a discharge as numbers that a caller lends: five for each piece, 1,024 pieces.
+#![tactic(auto)]
+
 ghost use Rattle.std.specs.Prelude.{◌≡◌, ◌<◌, length, get_or, replicate};
 ghost use Rattle.laws.specs.Limits.{PLACES, SHEET_CELLS};
 ghost use Rattle.laws.specs.Lists.{each};

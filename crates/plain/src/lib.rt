@@ -1,4 +1,6 @@
 // The values that the plain book and the machine's book share. It has no function.
+#![tactic(auto)]
+
 use laws::{ACCOUNTS, BusinessDay};
 use register::Register;
 

@@ -1,6 +1,8 @@
 // The player: a register and a file of events from standard input, and what becomes of them on standard output.
 // What it prints is the definition `transcript`, block by block (`transcript/specs/Whole.antt`). Only the copying from standard input and
 // of pages to standard output is outside the proofs.
+#![tactic(auto)]
+
 ghost use Rattle.std.specs.Prelude.{◌≤◌, ◌≡◌, length};
 ghost use Rattle.laws.specs.Limits.{SHEET_CELLS};
 ghost use Rattle.files.specs.File.{events_of};

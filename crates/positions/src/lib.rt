@@ -1,5 +1,7 @@
 // A discharge dealt out over the table of positions, in place, and a short set off against a long.
 // Document 01, 'Discharge and pieces', and document 02, Slip 7.
+#![tactic(auto)]
+
 ghost use Rattle.std.specs.Prelude.{◌≡◌};
 ghost use Rattle.positions.specs.Dealing as spec;
 ghost use Rattle.positions.specs.Pairing.{SettingOff, SetOff};

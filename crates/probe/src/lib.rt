@@ -1,5 +1,7 @@
 // The static library for tests: what the last event of the player's input answers and prints, its call made on a lent sheet of pieces, after
 // more closes than a file has room for; and the latest price of a security, which the player does not print. No desk calls it. The exported functions have no `requires`.
+#![tactic(auto)]
+
 ghost use Rattle.std.specs.Prelude.{List, ℕ, ◌-◌, min, ◌≡◌, length};
 ghost use Rattle.laws.specs.Limits.{LAST_DAY, PLACES};
 ghost use Rattle.files.specs.File.{events_of};

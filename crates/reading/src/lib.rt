@@ -1,4 +1,6 @@
 // What a caller reads of a book. Nothing is changed.
+#![tactic(auto)]
+
 ghost use Rattle.std.specs.Prelude.{◌≡◌};
 ghost use Rattle.reading.specs.Reading.{position_answer, award_answer, price_answer, balance_answer};
 ghost use Rattle.ledger.specs.Posts.{ledger_of};

@@ -1,6 +1,8 @@
 // The numbers that turn a call down, and the tests that several calls make, of the values that they look at: fields, numbers and single elements of the
 // book. Each call has the list of its own tests.
 // Document 01, 'Why a call is turned down', and document 02.
+#![tactic(auto)]
+
 ghost use Rattle.std.specs.Prelude.{◌≡◌, ◌-◌, eqb};
 ghost use Rattle.laws.specs.Asked.{within};
 ghost use Rattle.rules.specs.Windows.{step_on};

@@ -1,4 +1,6 @@
 // The check of an ISIN, and the reading of a register's bytes to a register by value.
+#![tactic(auto)]
+
 ghost use Rattle.std.specs.Prelude.{◌≡◌, reverse, ◌++◌, ◌≤◌, ◌<◌, length, drop};
 ghost use Rattle.laws.specs.Limits.{SECURITIES};
 ghost use Rattle.laws.specs.Lists.{every};

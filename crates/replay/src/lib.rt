@@ -1,4 +1,6 @@
 // A file of events played on a new book. Document 01, 'Event files and the player'.
+#![tactic(auto)]
+
 ghost use Rattle.std.specs.Prelude.{◌≤◌, ◌≡◌, length, take};
 ghost use Rattle.laws.specs.Limits.{SHEET_CELLS};
 ghost use Rattle.files.specs.File.{events_of};

@@ -1,5 +1,6 @@
 // The lines that the player prints, written into the first bytes of a page that the caller lends.
 // Document 01, 'Event files and the player'.
+#![tactic(auto)]
 
 ghost use Rattle.std.specs.Prelude.{◌≡◌, ◌∷◌, [], ◌++◌, ◌+◌, ◌*◌, ◌≤◌, min, length, take};
 ghost use Rattle.std.proofs.Math.IntN.{sub_ℕ};

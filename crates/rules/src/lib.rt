@@ -1,4 +1,6 @@
 // The rules on numbers alone: day windows, prices, fees and fines. Each function is its definition in specs/, for all inputs.
+#![tactic(auto)]
+
 ghost use Rattle.std.specs.Prelude.{◌≡◌, [], ◌∷◌, ◌*◌, min, max};
 ghost use Rattle.rules.specs.Windows.{step_on, recurring_step, step_kind};
 ghost use Rattle.rules.specs.Prices.{ceiling, raised, cash_price};

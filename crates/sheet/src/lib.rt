@@ -1,4 +1,6 @@
 // The calls on a sheet of pieces that the caller lends. Each takes the sheet's length, makes its call by value, and writes the pieces.
+#![tactic(auto)]
+
 ghost use Rattle.std.specs.Prelude.{◌≡◌, ◌++◌, ◌≤◌, length, drop};
 ghost use Rattle.events.specs.declared.Event.TheVariants as event;
 ghost use Rattle.tables.specs.Tables as tables;

@@ -1,6 +1,8 @@
 // The small tables of the machine's book, by value: an array with the number of its places that are in use. It has no function.
 // What stands past the count is free. The large tables, of positions, trades, awards and pieces, are numbers that a caller lends
 // (`rows`, `pieces`); what these stand for is said in specs/.
+#![tactic(auto)]
+
 use events::Offer;
 use laws::{ATTEMPTS, BusinessDay, OFFERS, PLACES, SECURITIES};
 use plain::Piece;

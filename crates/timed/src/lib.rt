@@ -1,5 +1,7 @@
 // The static library for the benchmark: an input played as the player plays it, its whole text written into a lent page and nothing printed.
 // It stands alone, since a function that others use too is compiled otherwise than in the player, where each has one place.
+#![tactic(auto)]
+
 ghost use Rattle.std.specs.Prelude.{◌+◌, ◌*◌, ◌≤◌, ◌≡◌, length};
 ghost use Rattle.laws.specs.Limits.{SHEET_CELLS};
 ghost use Rattle.files.specs.File.{events_of};

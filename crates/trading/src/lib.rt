@@ -1,4 +1,6 @@
 // Trades and prices.
+#![tactic(auto)]
+
 ghost use Rattle.std.specs.Prelude.{◌≡◌, length};
 ghost use Rattle.laws.specs.Limits.{TRADE_CELLS};
 ghost use Rattle.events.specs.declared.Event.TheVariants as event;

@@ -1,4 +1,6 @@
 // What the player prints for an input, in blocks that are written into a lent page. Document 01, 'Event files and the player'.
+#![tactic(auto)]
+
 ghost use Rattle.std.specs.Prelude.{◌≡◌, ◌+◌, ◌*◌, min, length, take};
 ghost use Rattle.laws.specs.Limits.{PLACES, SHEET_CELLS};
 ghost use Rattle.plain.specs.declared.Outcome.TheVariants as outcome;

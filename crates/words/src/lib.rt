@@ -1,4 +1,6 @@
 // Little-endian words made of bytes.
+#![tactic(auto)]
+
 ghost use Rattle.std.specs.Prelude.{◌≡◌};
 ghost use Rattle.laws.specs.Words;
 

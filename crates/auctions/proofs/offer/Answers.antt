@@ -35,13 +35,13 @@ entry s = on_words (on_rows s.requires.0 s.args.rows.now) s.args.words.now
 abbrev looked : After-row_at-short → Else-first-ne0
 looked r = r.before.before
 
-first-passed : (c : Else-first-ne0) → first (offer_reasons (start c).args.core.positions (start c).args.core.auction.position (start c).args.o) ≡ 0
-first-passed c = sym c.offer_refusal-first.ensures ∙ c.if-first-ne0.false
+first_passed : (c : Else-first-ne0) → first (offer_reasons (start c).args.core.positions (start c).args.core.auction.position (start c).args.o) ≡ 0
+first_passed c = sym c.offer_refusal-first.ensures ∙ c.if-first-ne0.false
 
 inside : (c : Else-first-ne0) → Within 1 (start c).args.core.positions (start c).args.o.position
 inside c =
     let s = start c in
-    let w = offer_held (kept_of s.args.core (entry s)) s.args.o s.requires.1.valid (first-passed c) in
+    let w = offer_held (kept_of s.args.core (entry s)) s.args.o s.requires.1.valid (first_passed c) in
     record { above = within_low _ _ _ w; below = within_high _ _ _ w }
 
 room : (c : Else-number-ne0) → (start (looked c.before.before.before.before)).args.core.auction.count < 16
@@ -61,13 +61,13 @@ row_at-short-requires c =
 pub word_of-word-requires : goal.word_of-word-requires
 word_of-word-requires c =
     let s = start (looked c) in
-    (s.requires.1.lent.follows.failing.securities, security_within s.args.core (entry s) s.requires.1 s.args.o (first-passed (looked c)) _ c.row_at-short.ensures)
+    (s.requires.1.lent.follows.failing.securities, security_within s.args.core (entry s) s.requires.1 s.args.o (first_passed (looked c)) _ c.row_at-short.ensures)
 
 pub returns-then-number-ne0 : goal.returns-then-number-ne0
 returns-then-number-ne0 c =
     λ others h.
     rw c.refused-then-number-ne0.ensures
-    (offer_refused _ (on_words (on_rows others _) _) h _ (first-passed (looked c.before.before.before.before.before)) _ c.row_at-short.ensures _ c.word_of-word.ensures _ c.is_failing-fails.ensures _ c.auction_refusal-number.ensures c.if-number-ne0.true)
+    (offer_refused _ (on_words (on_rows others _) _) h _ (first_passed (looked c.before.before.before.before.before)) _ c.row_at-short.ensures _ c.word_of-word.ensures _ c.is_failing-fails.ensures _ c.auction_refusal-number.ensures c.if-number-ne0.true)
 
 pub offset_bounds-entered-n : goal.offset_bounds-entered-n
 offset_bounds-entered-n c = search (rules, room c.before)
@@ -82,4 +82,4 @@ pub returns : goal.returns
 returns c =
     λ others h.
     rw c.done.ensures
-    (offer_taken _ (on_words (on_rows others _) _) h _ (first-passed (looked c.before.before.before.before.before.before)) _ c.row_at-short.ensures _ c.word_of-word.ensures _ c.is_failing-fails.ensures _ c.auction_refusal-number.ensures c.if-number-ne0.false)
+    (offer_taken _ (on_words (on_rows others _) _) h _ (first_passed (looked c.before.before.before.before.before.before)) _ c.row_at-short.ensures _ c.word_of-word.ensures _ c.is_failing-fails.ensures _ c.auction_refusal-number.ensures c.if-number-ne0.false)

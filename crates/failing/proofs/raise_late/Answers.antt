@@ -96,8 +96,8 @@ pub loop-i-smaller : goal.loop-i-smaller
 loop-i-smaller c = omega (arith, c.loop-i-test.true)
 
 -- the next place is late too
-late-on : (c : After-row_at-p) (j : ℕ) → j < place c + 1 → (get_or (table (start c)) j no_position).settlement.0 < (start c).args.day.0 + 1
-late-on c j l =
+late_on : (c : After-row_at-p) (j : ℕ) → j < place c + 1 → (get_or (table (start c)) j no_position).settlement.0 < (start c).args.day.0 + 1
+late_on c j l =
     ⊎_elim
     (λ e. omega (arith, row_late c, ap (λ (p : Position). p.settlement.0) (row_is c), ap (λ (k : ℕ). (get_or (table (start c)) k no_position).settlement.0) e))
     (λ k. c.loop-i.invariant.2 j k)
@@ -107,8 +107,8 @@ pub loop-i-preserved : goal.loop-i-preserved
 loop-i-preserved c =
     let answer = c.is_open_short.ensures in
     ⊎_elim
-    (λ w. (rw (w.words-is, w.counts-is) (w.with_late_short.ensures _ _ _ _ c.loop-i.invariant.0 (one_more _ _ _ _ (inside c.before.before) (row_is c.before.before) (row_late c.before.before) (sym answer ∙ w.if-is_open_short.true))), omega (arith, c.loop-i-test.true), late-on c.before.before))
-    (λ w. (rw (w.words-is, w.counts-is) (none_more _ _ _ _ (inside c.before.before) (row_is c.before.before) (row_late c.before.before) (sym answer ∙ w.if-is_open_short.false) _ _ c.loop-i.invariant.0), omega (arith, c.loop-i-test.true), late-on c.before.before))
+    (λ w. (rw (w.words-is, w.counts-is) (w.with_late_short.ensures _ _ _ _ c.loop-i.invariant.0 (one_more _ _ _ _ (inside c.before.before) (row_is c.before.before) (row_late c.before.before) (sym answer ∙ w.if-is_open_short.true))), omega (arith, c.loop-i-test.true), late_on c.before.before))
+    (λ w. (rw (w.words-is, w.counts-is) (none_more _ _ _ _ (inside c.before.before) (row_is c.before.before) (row_late c.before.before) (sym answer ∙ w.if-is_open_short.false) _ _ c.loop-i.invariant.0), omega (arith, c.loop-i-test.true), late_on c.before.before))
     c.if-is_open_short.branch-raw
 
 -- what the walk leaves, where it stops

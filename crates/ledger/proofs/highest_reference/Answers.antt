@@ -47,13 +47,13 @@ paired y = element (Paired _) _ _ no_piece _ (long (start y)) y.loop-i-test.true
 abbrev turn : After-row_at-long → In-loop-i
 turn r = r.before.before
 
-long-is : (r : After-row_at-long) → r.row_at-long.result ≡ get_or (rows_of (start (turn r)).args.rows.now) ((piece_at (turn r)).long - 1) no_position
-long-is r = rw (← r.long_at-number.ensures) r.row_at-long.ensures
+long_is : (r : After-row_at-long) → r.row_at-long.result ≡ get_or (rows_of (start (turn r)).args.rows.now) ((piece_at (turn r)).long - 1) no_position
+long_is r = rw (← r.long_at-number.ensures) r.row_at-long.ensures
 
-reference-is : (r : After-row_at-long) → let a = (start (turn r)).args in r.row_at-long.result.reference ≡ reference_of (position_table a.rows.now a.held) (piece_at (turn r))
-reference-is r =
+reference_is : (r : After-row_at-long) → let a = (start (turn r)).args in r.row_at-long.result.reference ≡ reference_of (position_table a.rows.now a.held) (piece_at (turn r))
+reference_is r =
     let a = (start (turn r)).args in
-    ap (λ (q : Position). q.reference) (long-is r ∙ sym (position_at (position_table a.rows.now a.held) (piece_at (turn r)).long (paired (turn r)).long))
+    ap (λ (q : Position). q.reference) (long_is r ∙ sym (position_at (position_table a.rows.now a.held) (piece_at (turn r)).long (paired (turn r)).long))
 
 pub loop-i-init : goal.loop-i-init
 loop-i-init c = (omega arith, omega arith)
@@ -79,7 +79,7 @@ pub loop-i-preserved : goal.loop-i-preserved
 loop-i-preserved c =
     let y = turn c.before in
     let step = highest_one _ _ _ (long (start y)) _ _ y.loop-i.invariant.0 no_piece _ y.loop-i-test.true in
-    (step (grind (arith, reference-is c.before)), omega (arith, y.loop-i-test.true))
+    (step (grind (arith, reference_is c.before)), omega (arith, y.loop-i-test.true))
 
 pub returns : goal.returns
 unfolding highest_long pieces

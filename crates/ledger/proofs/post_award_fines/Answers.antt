@@ -44,20 +44,20 @@ table s = position_table s.args.rows.now s.args.held
 long : (c : Start) → c.args.awarded ≤ length (awards_of c.args.awards.now)
 long c = omega (arith, c.requires.awards_fit_lem.places, c.requires.awards_fit_lem.held)
 
-awarded-at : (r : After-award_at-award) → Awarded r.args.held r.award_at-award.result
+awarded_at : (r : After-award_at-award) → Awarded r.args.held r.award_at-award.result
 unfolding awards
-awarded-at r =
+awarded_at r =
     rw r.award_at-award.ensures (element (Awarded _) _ _ no_award _ (long r.before.before.before) r.loop-i-test.true r.requires.awarded)
 
 accounted : (p : After-row_at-short) → Accounted p.row_at-short.result
 accounted p =
-    rw p.row_at-short.ensures (position_numbered (table p.before.before.before.before.before) p.requires.positions_fit Accounted _ (awarded-at p.before.before).position p.requires.accounted)
+    rw p.row_at-short.ensures (position_numbered (table p.before.before.before.before.before) p.requires.positions_fit Accounted _ (awarded_at p.before.before).position p.requires.accounted)
 
 class_of : (p : After-row_at-short) → let a = p.args in let s = p.row_at-short.result.security in get_or a.register.classes (s - 1) 0 ≡ nth 0 a.register.classes s
 class_of p = class_read p.args.register.classes _ (accounted p).security.above
 
-latest-of : (p : After-row_at-short) → let a = p.args in let s = p.row_at-short.result.security in get_or a.prices.latest (s - 1) 0 ≡ (nth no_price (tables.prices a.prices) s).price
-latest-of p = latest_read p.args.prices _ p.requires.prices_many (accounted p).security
+latest_of : (p : After-row_at-short) → let a = p.args in let s = p.row_at-short.result.security in get_or a.prices.latest (s - 1) 0 ≡ (nth no_price (tables.prices a.prices) s).price
+latest_of p = latest_read p.args.prices _ p.requires.prices_many (accounted p).security
 
 -- the award is fined: its charge is the next to be posted
 posting : (x : After-award_fine-fine)
@@ -68,7 +68,7 @@ posting : (x : After-award_fine-fine)
 unfolding new
 posting x =
     place_some _ _ _ (long x.before.before.before.before.before.before.before.before.before.before.before.before) _ _ _ no_award _ x.loop-i-test.true
-    (rw (← x.award_at-award.ensures) (award_fined _ x.award_at-award.result x.row_at-short.result _ _ (position_at (table x.before.before.before.before.before.before.before.before.before.before.before.before) _ (awarded-at x.before.before.before.before.before.before.before.before.before).position ∙ sym x.row_at-short.ensures) (latest-of x.before.before.before.before.before.before.before) x.award_is_fined.ensures _ _ _ x.if-award_is_fined.true (class_of x.before.before.before.before.before.before.before) x.value_of.ensures x.award_fine-fine.ensures))
+    (rw (← x.award_at-award.ensures) (award_fined _ x.award_at-award.result x.row_at-short.result _ _ (position_at (table x.before.before.before.before.before.before.before.before.before.before.before.before) _ (awarded_at x.before.before.before.before.before.before.before.before.before).position ∙ sym x.row_at-short.ensures) (latest_of x.before.before.before.before.before.before.before) x.award_is_fined.ensures _ _ _ x.if-award_is_fined.true (class_of x.before.before.before.before.before.before.before) x.value_of.ensures x.award_fine-fine.ensures))
     x.loop-i.invariant.0
 
 pub loop-i-init : goal.loop-i-init
@@ -79,11 +79,11 @@ pub award_at-award-requires : goal.award_at-award-requires
 award_at-award-requires c = omega (arith, c.requires.awards_fit_lem.held)
 
 pub overflow_sub-place : goal.overflow_sub-place
-overflow_sub-place c = omega (arith, (awarded-at c.before).position.above)
+overflow_sub-place c = omega (arith, (awarded_at c.before).position.above)
 
 pub row_at-short-requires : goal.row_at-short-requires
 row_at-short-requires c =
-    omega (arith, (awarded-at c.before).position.above, (awarded-at c.before).position.below, c.requires.positions_fit.held)
+    omega (arith, (awarded_at c.before).position.above, (awarded_at c.before).position.below, c.requires.positions_fit.held)
 
 pub overflow_sub-k : goal.overflow_sub-k
 overflow_sub-k c = omega (arith, (accounted c.before).security.above)
@@ -102,7 +102,7 @@ raise_place-requires c = (omega arith, credit_fits _ _ _ (posting c.before).room
 
 pub raise_place-requires-then-award_is_fined : goal.raise_place-requires-then-award_is_fined
 raise_place-requires-then-award_is_fined c =
-    ((awarded-at c.before.before.before.before.before.before.before.before.before.before.before.before).offerer, debit_fits _ _ _ (posting c.before.before.before).room _)
+    ((awarded_at c.before.before.before.before.before.before.before.before.before.before.before.before).offerer, debit_fits _ _ _ (posting c.before.before.before).room _)
 
 pub overflow_add-i : goal.overflow_add-i
 overflow_add-i c = omega (arith, c.requires.awards_fit_lem.held)
@@ -120,7 +120,7 @@ loop-i-preserved c =
       omega arith,
     ))
     (λ w. (
-      rw (w.credits-is, w.debits-is) (place_none _ _ _ (long c.before.before.before.before.before.before.before.before.before) _ _ _ no_award c.loop-i-test.true (rw (← c.award_at-award.ensures) (award_free _ c.award_at-award.result c.row_at-short.result _ _ (position_at (table c.before.before.before.before.before.before.before.before.before) _ (awarded-at c.before.before.before.before.before.before).position ∙ sym c.row_at-short.ensures) (latest-of c.before.before.before.before) c.award_is_fined.ensures w.if-award_is_fined.false)) c.loop-i.invariant.0),
+      rw (w.credits-is, w.debits-is) (place_none _ _ _ (long c.before.before.before.before.before.before.before.before.before) _ _ _ no_award c.loop-i-test.true (rw (← c.award_at-award.ensures) (award_free _ c.award_at-award.result c.row_at-short.result _ _ (position_at (table c.before.before.before.before.before.before.before.before.before) _ (awarded_at c.before.before.before.before.before.before).position ∙ sym c.row_at-short.ensures) (latest_of c.before.before.before.before) c.award_is_fined.ensures w.if-award_is_fined.false)) c.loop-i.invariant.0),
       omega arith,
     ))
     c.if-award_is_fined.branch-raw

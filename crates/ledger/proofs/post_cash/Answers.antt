@@ -26,8 +26,8 @@ price_is x =
     rw x.highest_reference-long.ensures at x.cash_price-price.ensures
     ∙ sym (by_highest_long _ _ _ _)
 
-fee-is : (x : After-cash_fee-fee) → let a = x.args in x.cash_fee-fee.result ≡ cash_fee (a.short.unsettled * a.latest)
-fee-is x = rw (← x.value_of.ensures) x.cash_fee-fee.ensures
+fee_is : (x : After-cash_fee-fee) → let a = x.args in x.cash_fee-fee.result ≡ cash_fee (a.short.unsettled * a.latest)
+fee_is x = rw (← x.value_of.ensures) x.cash_fee-fee.ensures
 
 pub highest_reference-long-requires : goal.highest_reference-long-requires
 highest_reference-long-requires c = c.requires.0.priceable
@@ -42,10 +42,10 @@ post-requires c =
     let h = c.requires.0 in
     record {
       booked = record { payer = h.account; payee = omega arith };
-      room = rw (c.post_payments.ensures.1, price_is c.before.before.before.before.before.before.before.before, fee-is c.before.before) (room_then _ _ _ h.room);
+      room = rw (c.post_payments.ensures.1, price_is c.before.before.before.before.before.before.before.before, fee_is c.before.before) (room_then _ _ _ h.room);
     }
 
 pub returns : goal.returns
 returns c =
     let g = c.post_payments.ensures in
-    (rw (price_is c.before.before.before.before.before.before.before.before.before) at g.0, (rw (g.1, price_is c.before.before.before.before.before.before.before.before.before, fee-is c.before.before.before) at c.post.ensures) ∙ posted_append _ _ _)
+    (rw (price_is c.before.before.before.before.before.before.before.before.before) at g.0, (rw (g.1, price_is c.before.before.before.before.before.before.before.before.before, fee_is c.before.before.before) at c.post.ensures) ∙ posted_append _ _ _)

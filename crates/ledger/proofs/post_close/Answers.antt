@@ -27,11 +27,11 @@ fined c =
     c.if-awarded-gt0.branch-raw
 
 -- and the late fines can be, of the positions as they are
-late-finable : (c : Joined-awarded-gt0) → let a = c.args in (day : BusinessDay)
+late_finable : (c : Joined-awarded-gt0) → let a = c.args in (day : BusinessDay)
     → CloseFinable (ledger_of a.credits.now a.debits.now) (award_table a.awards.now a.awarded) (position_table a.rows.now a.held) a.prices a.register day
     → LateFinable (ledger_of c.if-awarded-gt0.credits c.if-awarded-gt0.debits) (position_table a.rows.now a.held) a.prices a.register day
 unfolding close_charges_of
-late-finable c day f =
+late_finable c day f =
     record {
       room = rw (fined c) (room_then _ _ _ f.room);
       prices_many = f.prices_many;
@@ -54,9 +54,9 @@ post_award_fines-requires c =
 
 pub post_late_fines-requires : goal.post_late_fines-requires
 post_late_fines-requires c =
-    (_, c.requires.0, late-finable c.before.before c.requires.0 c.requires.1, c.requires.2)
+    (_, c.requires.0, late_finable c.before.before c.requires.0 c.requires.1, c.requires.2)
 
 pub returns : goal.returns
 unfolding close_charges_of
 returns c = λ day f late.
-    (rw (fined c.before.before.before) at (c.post_late_fines.ensures _ day (late-finable c.before.before.before day f) late)) ∙ posted_append _ _ _
+    (rw (fined c.before.before.before) at (c.post_late_fines.ensures _ day (late_finable c.before.before.before day f) late)) ∙ posted_append _ _ _

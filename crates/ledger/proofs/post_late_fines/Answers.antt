@@ -75,8 +75,8 @@ accounted r =
 class_of : (r : After-row_at-short) → let a = (start r).args in let s = r.row_at-short.result.security in get_or a.register.classes (s - 1) 0 ≡ nth 0 a.register.classes s
 class_of r = class_read (start r).args.register.classes _ (accounted r).security.above
 
-latest-of : (r : After-row_at-short) → let a = (start r).args in let s = r.row_at-short.result.security in get_or a.prices.latest (s - 1) 0 ≡ (nth no_price (tables.prices a.prices) s).price
-latest-of r = latest_read (start r).args.prices _ (start r).requires.2.prices_many (accounted r).security
+latest_of : (r : After-row_at-short) → let a = (start r).args in let s = r.row_at-short.result.security in get_or a.prices.latest (s - 1) 0 ≡ (nth no_price (tables.prices a.prices) s).price
+latest_of r = latest_read (start r).args.prices _ (start r).requires.2.prices_many (accounted r).security
 
 module _ (r : After-row_at-short) (held : ℕ) (day : BusinessDay) (h : FinableAt (start r) held day) where
   is_due : r.row_at-short.result.settlement.0 ≤ day.0
@@ -93,7 +93,7 @@ posting : (x : After-late_fine-fine)
 unfolding new
 posting x held day h =
     place_some _ _ _ (fits (start x.before.before.before.before.before.before.before) held day h) _ _ _ no_position _ (held_there (start x.before.before.before.before.before.before.before) held day h _ (below x.before.before.before.before.before.before.before))
-    (rw (← x.row_at-short.ensures) (late_fined _ x.row_at-short.result _ _ _ (is_due x.before.before.before.before.before.before.before held day h) (class_of x.before.before.before.before.before.before.before) (latest-of x.before.before.before.before.before.before.before) x.short_is_fined.ensures _ _ x.if-short_is_fined.true x.value_of.ensures x.late_fine-fine.ensures))
+    (rw (← x.row_at-short.ensures) (late_fined _ x.row_at-short.result _ _ _ (is_due x.before.before.before.before.before.before.before held day h) (class_of x.before.before.before.before.before.before.before) (latest_of x.before.before.before.before.before.before.before) x.short_is_fined.ensures _ _ x.if-short_is_fined.true x.value_of.ensures x.late_fine-fine.ensures))
     (x.loop-i.invariant.0 held day h)
 
 pub loop-i-init : goal.loop-i-init
@@ -148,7 +148,7 @@ loop-i-preserved c =
       λ held day h.
           rw (w.credits-is, w.debits-is)
           (place_none _ _ _ (fits (start c.before.before.before.before.before) held day h) _ _ _ no_position (held_there (start c.before.before.before.before.before) held day h _ (below c.before.before.before.before.before))
-          (rw (← c.row_at-short.ensures) (late_free _ c.row_at-short.result _ _ _ (is_due c.before.before.before.before.before held day h) (class_of c.before.before.before.before.before) (latest-of c.before.before.before.before.before) c.short_is_fined.ensures w.if-short_is_fined.false))
+          (rw (← c.row_at-short.ensures) (late_free _ c.row_at-short.result _ _ _ (is_due c.before.before.before.before.before held day h) (class_of c.before.before.before.before.before) (latest_of c.before.before.before.before.before) c.short_is_fined.ensures w.if-short_is_fined.false))
           (c.loop-i.invariant.0 held day h)),
       less,
     ))

@@ -62,13 +62,13 @@ charged_of s = payment_at s.args.price (position_table s.args.rows.now s.args.he
 abbrev turn : After-row_at-long → In-loop-i
 turn r = r.before.before.before
 
-long-is : (r : After-row_at-long) → r.row_at-long.result ≡ get_or (rows_of (start (turn r)).args.rows.now) ((piece_at (turn r)).long - 1) no_position
-long-is r = rw (← r.long_at-number.ensures) r.row_at-long.ensures
+long_is : (r : After-row_at-long) → r.row_at-long.result ≡ get_or (rows_of (start (turn r)).args.rows.now) ((piece_at (turn r)).long - 1) no_position
+long_is r = rw (← r.long_at-number.ensures) r.row_at-long.ensures
 
 accounted : (r : After-row_at-long) → Accounted r.row_at-long.result
 accounted r =
     let s = start (turn r) in
-    rw (long-is r) (position_numbered (position_table s.args.rows.now s.args.held) s.requires.0.priceable.positions_fit Accounted _ (paired (turn r)).long s.requires.0.accounted)
+    rw (long_is r) (position_numbered (position_table s.args.rows.now s.args.held) s.requires.0.priceable.positions_fit Accounted _ (paired (turn r)).long s.requires.0.accounted)
 
 -- the piece's payment is the next charge to be posted
 posting : (r : After-row_at-long)
@@ -81,7 +81,7 @@ posting : (r : After-row_at-long)
 posting r =
     let y = turn r in
     place_some (charged_of (start y)) _ _ (long (start y)) _ _ _ no_piece _ y.loop-i-test.true
-    (rw (← same y) (payment_here _ _ _ (piece_at y) _ _ (paired y) (owed y) (long-is r) r.units_at-units.ensures))
+    (rw (← same y) (payment_here _ _ _ (piece_at y) _ _ (paired y) (owed y) (long_is r) r.units_at-units.ensures))
     y.loop-i.invariant.1
 
 pub loop-i-init : goal.loop-i-init
@@ -132,7 +132,7 @@ pub loop-i-preserved : goal.loop-i-preserved
 loop-i-preserved c =
     let y = turn c.before.before.before.before.before.before in (
       rw c.put_cents.ensures.pieces
-          (changing_one _ _ _ (long (start y)) _ _ no_piece y.loop-i-test.true y.loop-i.invariant.0 _ (priced_here _ _ _ (piece_at y) _ _ (paired y) (owed y) (long-is c.before.before.before.before.before.before) c.units_at-units.ensures)),
+          (changing_one _ _ _ (long (start y)) _ _ no_piece y.loop-i-test.true y.loop-i.invariant.0 _ (priced_here _ _ _ (piece_at y) _ _ (paired y) (owed y) (long_is c.before.before.before.before.before.before) c.units_at-units.ensures)),
       rw (c.raise_place.ensures, c.raise_place-in-loop-i.ensures) (posting_one _ _ _ _ _ (posting c.before.before.before.before.before.before)),
       omega (arith, y.loop-i-test.true),
       c.put_cents.ensures.size,

@@ -39,11 +39,11 @@ abbrev clients : In-loop-member → List Position
 clients y = let a = y.args in kind_positions a.day.0 (totals_of a.client.now) a.securities y.loop-member.member Client
 
 -- its own comes next, and then its clients'
-own-next : (y : In-loop-member) → Filling (table y) (own y ++ (clients y ++ rest y)) y.loop-member.n (rows_of y.loop-member.rows)
-own-next y = two_parts (table y) (own y) (clients y) (rest y) _ _ (run_next (made y) 63 _ y.loop-member-test.true _ _ _ y.loop-member.invariant.0)
+own_next : (y : In-loop-member) → Filling (table y) (own y ++ (clients y ++ rest y)) y.loop-member.n (rows_of y.loop-member.rows)
+own_next y = two_parts (table y) (own y) (clients y) (rest y) _ _ (run_next (made y) 63 _ y.loop-member-test.true _ _ _ y.loop-member.invariant.0)
 
-client-next : (k : After-net_kind-with_own) → Filling (table k.before.before) (clients k.before.before ++ rest k.before.before) k.net_kind-with_own.result (rows_of k.net_kind-with_own.new.rows)
-client-next k = part_more (table k.before.before) (own k.before.before) (clients k.before.before ++ rest k.before.before) _ _ (own-next k.before.before) _ _ k.net_kind-with_own.ensures.0
+client_next : (k : After-net_kind-with_own) → Filling (table k.before.before) (clients k.before.before ++ rest k.before.before) k.net_kind-with_own.result (rows_of k.net_kind-with_own.new.rows)
+client_next k = part_more (table k.before.before) (own k.before.before) (clients k.before.before ++ rest k.before.before) _ _ (own_next k.before.before) _ _ k.net_kind-with_own.ensures.0
 
 pub loop-member-init : goal.loop-member-init
 loop-member-init c = (run_start _ _ _ _ c.requires.0.room, omega arith, c.requires.1)
@@ -56,7 +56,7 @@ net_kind-with_own-requires c =
         member_fits = record { above = i.1; below = c.loop-member-test.true };
         securities_fit = d.securities_fit;
         dated = d.dated;
-        room = part_room (table c.before) (own c.before) (clients c.before ++ rest c.before) _ _ (own-next c.before);
+        room = part_room (table c.before) (own c.before) (clients c.before ++ rest c.before) _ _ (own_next c.before);
       },
       i.2,
     )
@@ -68,7 +68,7 @@ net_kind-n-requires c =
         member_fits = record { above = c.loop-member.invariant.1; below = c.loop-member-test.true };
         securities_fit = d.securities_fit;
         dated = d.dated;
-        room = part_room (table c.before.before.before) (clients c.before.before.before) (rest c.before.before.before) _ _ (client-next c.before);
+        room = part_room (table c.before.before.before) (clients c.before.before.before) (rest c.before.before.before) _ _ (client_next c.before);
       },
       c.net_kind-with_own.ensures.1,
     )
@@ -81,7 +81,7 @@ loop-member-smaller c = omega arith
 
 pub loop-member-preserved : goal.loop-member-preserved
 loop-member-preserved c =
-    (part_more (table c.before.before.before.before) (clients c.before.before.before.before) (rest c.before.before.before.before) _ _ (client-next c.before.before) _ _ c.net_kind-n.ensures.0, omega arith, c.net_kind-n.ensures.1)
+    (part_more (table c.before.before.before.before) (clients c.before.before.before.before) (rest c.before.before.before.before) _ _ (client_next c.before.before) _ _ c.net_kind-n.ensures.0, omega arith, c.net_kind-n.ensures.1)
 
 pub returns : goal.returns
 returns c = let i = c.loop-member.invariant in (run_appended _ _ _ _ _ c.loop-member-test.false _ _ i.0, i.2)

@@ -26,17 +26,17 @@ After-gather = lts.After-gather tie.the-claims reads.Pre reads.Post
 abbrev Else-has_client : Type 0
 Else-has_client = lts.Else1 tie.the-claims reads.Pre reads.Post
 
-abbrev trades-of : Start → Trades
-trades-of s = trade_table s.args.trades.now s.args.count s.args.netted
+abbrev trades_of : Start → Trades
+trades_of s = trade_table s.args.trades.now s.args.count s.args.netted
 
 abbrev table_of : Start → Positions
 table_of s = position_table s.args.rows.now s.args.held
 
 pub gather-requires : goal.gather-requires
-gather-requires c = (gatherable (table_of c.before.before) (trades-of c.before.before) _ _ c.requires.0, c.no_totals-own.ensures)
+gather-requires c = (gatherable (table_of c.before.before) (trades_of c.before.before) _ _ c.requires.0, c.no_totals-own.ensures)
 
 pub has_client-requires : goal.has_client-requires
-has_client-requires c = gatherable (table_of c.before.before.before.before) (trades-of c.before.before.before.before) _ _ c.requires.0
+has_client-requires c = gatherable (table_of c.before.before.before.before) (trades_of c.before.before.before.before) _ _ c.requires.0
 
 pub net_clients-requires : goal.net_clients-requires
 net_clients-requires c =
@@ -49,14 +49,14 @@ abbrev made : After-gather → ℕ → List Position
 made g = let a = g.args in own_positions a.day.0 (totals_of g.gather.new.totals) a.securities
 
 -- without client business the positions of the day are those of the table of own business
-same : (k : Else-has_client) → (netted k.args.day.0 (today (trades-of k.before.before.before.before.before)) (keys k.args.securities) ≡ each (made k.before.before) (range 1 63))
+same : (k : Else-has_client) → (netted k.args.day.0 (today (trades_of k.before.before.before.before.before)) (keys k.args.securities) ≡ each (made k.before.before) (range 1 63))
 same k =
-    own_netted _ (trades-of k.before.before.before.before.before) _ k.requires.0.securities_fit _ k.gather.ensures (sym k.has_client.ensures ∙ k.if-has_client.false)
+    own_netted _ (trades_of k.before.before.before.before.before) _ k.requires.0.securities_fit _ k.gather.ensures (sym k.has_client.ensures ∙ k.if-has_client.false)
 
 pub net_own-requires : goal.net_own-requires
 net_own-requires c =
-    (members_fit (table_of c.before.before.before.before.before.before.before) (trades-of c.before.before.before.before.before.before.before) _ _ c.requires.0 (made c.before.before.before.before) (same c.before.before), c.requires.1)
+    (members_fit (table_of c.before.before.before.before.before.before.before) (trades_of c.before.before.before.before.before.before.before) _ _ c.requires.0 (made c.before.before.before.before) (same c.before.before), c.requires.1)
 
 pub returns : goal.returns
 returns c =
-    (members_netted (table_of c.before.before.before.before.before.before.before.before) (trades-of c.before.before.before.before.before.before.before.before) _ _ c.requires.0 (made c.before.before.before.before.before) (same c.before.before.before) _ c.net_own.ensures.0, c.net_own.ensures.1)
+    (members_netted (table_of c.before.before.before.before.before.before.before.before) (trades_of c.before.before.before.before.before.before.before.before) _ _ c.requires.0 (made c.before.before.before.before.before) (same c.before.before.before) _ c.net_own.ensures.0, c.net_own.ensures.1)

@@ -31,37 +31,37 @@ abbrev After-place_of-place : Type 0
 After-place_of-place = lts.After-place_of tie.the-claims reads.Pre reads.Post
 
 -- whether the trade's side is of the kind
-abbrev asked-from : After-kind_number → Start
-asked-from k = k.before.before
+abbrev asked_from : After-kind_number → Start
+asked_from k = k.before.before
 
-other-kind : (c : Then-party_kind-kind_number) → eqb (party_kind_of (asked-from c.before).args.side (asked-from c.before).args.trade) (kind_number (asked-from c.before).args.kind) ≡ false
-other-kind c =
-    let s = asked-from c.before in
+other_kind : (c : Then-party_kind-kind_number) → eqb (party_kind_of (asked_from c.before).args.side (asked_from c.before).args.trade) (kind_number (asked_from c.before).args.kind) ≡ false
+other_kind c =
+    let s = asked_from c.before in
     ne_eqb (party_kind_of s.args.side s.args.trade) (kind_number s.args.kind) (λ e. omega (arith, e, c.if-party_kind-kind_number.true, c.party_kind.ensures, c.kind_number.ensures))
 
-this-kind : (c : Else-party_kind-kind_number) → eqb (party_kind_of (asked-from c.before).args.side (asked-from c.before).args.trade) (kind_number (asked-from c.before).args.kind) ≡ true
-this-kind c =
-    let s = asked-from c.before in
+this_kind : (c : Else-party_kind-kind_number) → eqb (party_kind_of (asked_from c.before).args.side (asked_from c.before).args.trade) (kind_number (asked_from c.before).args.kind) ≡ true
+this_kind c =
+    let s = asked_from c.before in
     eq-eqb (party_kind_of s.args.side s.args.trade) (kind_number s.args.kind) (omega (arith, c.if-party_kind-kind_number.false, c.party_kind.ensures, c.kind_number.ensures))
 
 -- the place that is raised is that of the trade's party and security
-abbrev placed-from : After-place_of-place → Start
-placed-from x = asked-from x.before.before.before
+abbrev placed_from : After-place_of-place → Start
+placed_from x = asked_from x.before.before.before
 
-its_place : (x : After-place_of-place) → x.place_of-place.result ≡ place_of (placed-from x).args.side (party_of (placed-from x).args.side (placed-from x).args.trade) (placed-from x).args.trade.security
+its_place : (x : After-place_of-place) → x.place_of-place.result ≡ place_of (placed_from x).args.side (party_of (placed_from x).args.side (placed_from x).args.trade) (placed_from x).args.trade.security
 its_place x = rw (x.place_of-place.ensures, x.party.ensures)
 
 placed : (x : After-place_of-place) → x.place_of-place.result < 4032
 placed x =
-    let s = placed-from x in
+    let s = placed_from x in
     rw (its_place x) (place_fits s.args.kind s.args.side _ _ (key_fits s.args.kind s.args.side s.args.trade s.requires.fair))
 
 pub returns-then-party_kind-kind_number : goal.returns-then-party_kind-kind_number
-returns-then-party_kind-kind_number c = rw (other-kind c) (refl, (asked-from c.before).requires.long)
+returns-then-party_kind-kind_number c = rw (other_kind c) (refl, (asked_from c.before).requires.long)
 
 pub place_of-place-requires : goal.place_of-place-requires
 place_of-place-requires c =
-    let s = asked-from c.before.before in
+    let s = asked_from c.before.before in
     let f = key_fits s.args.kind s.args.side s.args.trade s.requires.fair in
     (rw c.party.ensures f.member.above, f.security.above)
 
@@ -70,12 +70,12 @@ total_at-requires c = placed c
 
 pub with_trade-more-requires : goal.with_trade-more-requires
 with_trade-more-requires c =
-    rw (c.total_at.ensures, its_place c.before) (placed-from c.before).requires.addable
+    rw (c.total_at.ensures, its_place c.before) (placed_from c.before).requires.addable
 
 pub put_total-requires : goal.put_total-requires
 put_total-requires c =
-    ((placed-from c.before.before.before).requires.long, placed c.before.before.before)
+    ((placed_from c.before.before.before).requires.long, placed c.before.before.before)
 
 pub returns : goal.returns
 returns c =
-    rw (this-kind c.before.before.before.before.before.before, ← its_place c.before.before.before.before) (rw (← c.total_at.ensures, ← c.with_trade-more.ensures) c.put_total.ensures)
+    rw (this_kind c.before.before.before.before.before.before, ← its_place c.before.before.before.before) (rw (← c.total_at.ensures, ← c.with_trade-more.ensures) c.put_total.ensures)

@@ -58,41 +58,41 @@ abbrev After-kind_letter : Type 0
 After-kind_letter = lts.After-kind_letter tie.the-claims reads.Pre reads.Post
 
 -- from each step back to the start
-abbrev blank-from : After-put_blank_line → Start
-blank-from k = k.before.before.before
+abbrev blank_from : After-put_blank_line → Start
+blank_from k = k.before.before.before
 
-abbrev numbered-from : After-put_figure → Start
-numbered-from k = blank-from k.before.before.before.before
+abbrev numbered_from : After-put_figure → Start
+numbered_from k = blank_from k.before.before.before.before
 
-abbrev member-from : After-put_figure-2 → Start
-member-from k = numbered-from k.before.before.before.before.before
+abbrev member_from : After-put_figure-2 → Start
+member_from k = numbered_from k.before.before.before.before.before
 
-abbrev named-from : After-put_isin → Start
-named-from k = member-from k.before.before.before.before
+abbrev named_from : After-put_isin → Start
+named_from k = member_from k.before.before.before.before
 
-abbrev sided-from : After-side_of → Start
-sided-from k = named-from k.before.before.before
+abbrev sided_from : After-side_of → Start
+sided_from k = named_from k.before.before.before
 
-abbrev netted-from : After-put_figure-3 → Start
-netted-from k = sided-from k.before.before.before
+abbrev netted_from : After-put_figure-3 → Start
+netted_from k = sided_from k.before.before.before
 
-abbrev delivered-from : After-put_figure-4 → Start
-delivered-from k = netted-from k.before.before.before.before.before
+abbrev delivered_from : After-put_figure-4 → Start
+delivered_from k = netted_from k.before.before.before.before.before
 
-abbrev bought-from : After-put_figure-5 → Start
-bought-from k = delivered-from k.before.before.before.before.before
+abbrev bought_from : After-put_figure-5 → Start
+bought_from k = delivered_from k.before.before.before.before.before
 
-abbrev cash-from : After-put_figure-6 → Start
-cash-from k = bought-from k.before.before.before.before.before
+abbrev cash_from : After-put_figure-6 → Start
+cash_from k = bought_from k.before.before.before.before.before
 
-abbrev unsettled-from : After-put_figure-7 → Start
-unsettled-from k = cash-from k.before.before.before.before.before
+abbrev unsettled_from : After-put_figure-7 → Start
+unsettled_from k = cash_from k.before.before.before.before.before
 
-abbrev settlement-from : After-put_figure-8 → Start
-settlement-from k = unsettled-from k.before.before.before.before.before
+abbrev settlement_from : After-put_figure-8 → Start
+settlement_from k = unsettled_from k.before.before.before.before.before
 
-abbrev kind-from : After-kind_letter → Start
-kind-from k = settlement-from k.before.before.before
+abbrev kind_from : After-kind_letter → Start
+kind_from k = settlement_from k.before.before.before
 
 -- the columns of the line, all of them and the first n
 abbrev all : Start → List Column
@@ -101,136 +101,136 @@ all s = columns s.args.isins.now s.args.number s.args.position
 abbrev Upto : Start → ℕ → List ℕ → Type 0
 Upto s n page = Written s.args.page.now page (take n (all s))
 
-blank : (k : After-put_blank_line) → Upto (blank-from k) 0 k.put_blank_line.new.page
+blank : (k : After-put_blank_line) → Upto (blank_from k) 0 k.put_blank_line.new.page
 blank k = record { text = k.put_blank_line.ensures; long = k.put_blank_line.auto.page }
 
 pub put_figure-requires : goal.put_figure-requires
 unfolding columns
 put_figure-requires c =
-    let s = blank-from c.before.before.before in
+    let s = blank_from c.before.before.before in
     (omega arith, room (all s) 0 s.requires.3 (omega arith) (omega arith), omega (arith, (blank c.before.before.before).long, s.requires.0))
 
-numbered : (k : After-put_figure) → Upto (numbered-from k) 1 k.put_figure.new.page
+numbered : (k : After-put_figure) → Upto (numbered_from k) 1 k.put_figure.new.page
 unfolding columns
 numbered k =
-    let s = blank-from k.before.before.before.before in
+    let s = blank_from k.before.before.before.before in
     next_written (take 0 (all s)) (column 1 4 (digits s.args.number)) s.args.page.now _ k.put_figure.new.page refl (all_take (λ c. length c.text ≤ width c) 1 (all s) s.requires.3) (blank k.before.before.before.before) k.put_figure.ensures
 
 pub put_figure-requires-2 : goal.put_figure-requires-2
 unfolding columns
 put_figure-requires-2 c =
-    let s = numbered-from c.before.before.before.before in
+    let s = numbered_from c.before.before.before.before in
     (omega arith, room (all s) 1 s.requires.3 (omega arith) (omega arith), omega (arith, (numbered c.before.before.before.before).long, s.requires.0))
 
-member : (k : After-put_figure-2) → Upto (member-from k) 2 k.put_figure-2.new.page
+member : (k : After-put_figure-2) → Upto (member_from k) 2 k.put_figure-2.new.page
 unfolding columns
 member k =
-    let s = numbered-from k.before.before.before.before.before in
+    let s = numbered_from k.before.before.before.before.before in
     next_written (take 1 (all s)) (column 6 7 (digits s.args.position.member)) s.args.page.now _ k.put_figure-2.new.page refl (all_take (λ c. length c.text ≤ width c) 2 (all s) s.requires.3) (numbered k.before.before.before.before.before) k.put_figure-2.ensures
 
 pub put_isin-requires : goal.put_isin-requires
 put_isin-requires c =
-    let s = member-from c.before.before.before in
+    let s = member_from c.before.before.before in
     (omega (arith, (member c.before.before.before).long, s.requires.0), s.requires.1, s.requires.2)
 
-named : (k : After-put_isin) → Upto (named-from k) 3 k.put_isin.new.page
+named : (k : After-put_isin) → Upto (named_from k) 3 k.put_isin.new.page
 unfolding columns
 named k =
-    let s = member-from k.before.before.before.before in
+    let s = member_from k.before.before.before.before in
     let isin = isin_of s.args.isins.now s.args.position.security in
     let page = k.put_figure-2.new.page in
     let at : 8 ≡ 20 - length isin = omega (arith, length_isin s.args.isins.now s.args.position.security s.requires.1 s.requires.2) in
     next_written (take 2 (all s)) (column 9 20 isin) s.args.page.now page k.put_isin.new.page refl (all_take (λ c. length c.text ≤ width c) 3 (all s) s.requires.3) (member k.before.before.before.before) (k.put_isin.ensures ∙ ap (λ (n : ℕ). sets page n isin) at)
 
 pub bounds-page-21 : goal.bounds-page-21
-bounds-page-21 c = omega (arith, (named c.before.before.before).long, (sided-from c).requires.0)
+bounds-page-21 c = omega (arith, (named c.before.before.before).long, (sided_from c).requires.0)
 
-sided : (k : After-side_of) → Upto (sided-from k) 4 (set k.put_isin.new.page 21 k.side_of.result)
+sided : (k : After-side_of) → Upto (sided_from k) 4 (set k.put_isin.new.page 21 k.side_of.result)
 unfolding columns
 sided k =
-    let s = named-from k.before.before.before in
+    let s = named_from k.before.before.before in
     let page = k.put_isin.new.page in
     next_written (take 3 (all s)) (column 22 22 (side s.args.position.short ∷ [])) s.args.page.now page (set page 21 k.side_of.result) refl (all_take (λ c. length c.text ≤ width c) 4 (all s) s.requires.3) (named k.before.before.before) (ap (set page 21) k.side_of.ensures)
 
 pub put_figure-requires-3 : goal.put_figure-requires-3
 unfolding columns
 put_figure-requires-3 c =
-    let s = sided-from c.before.before in
+    let s = sided_from c.before.before in
     (omega arith, room (all s) 4 s.requires.3 (omega arith) (omega arith), omega (arith, (sided c.before.before).long, s.requires.0))
 
-netted : (k : After-put_figure-3) → Upto (netted-from k) 5 k.put_figure-3.new.page
+netted : (k : After-put_figure-3) → Upto (netted_from k) 5 k.put_figure-3.new.page
 unfolding columns
 netted k =
-    let s = sided-from k.before.before.before in
+    let s = sided_from k.before.before.before in
     next_written (take 4 (all s)) (column 24 32 (digits s.args.position.netted)) s.args.page.now _ k.put_figure-3.new.page refl (all_take (λ c. length c.text ≤ width c) 5 (all s) s.requires.3) (sided k.before.before.before) k.put_figure-3.ensures
 
 pub put_figure-requires-4 : goal.put_figure-requires-4
 unfolding columns
 put_figure-requires-4 c =
-    let s = netted-from c.before.before.before.before in
+    let s = netted_from c.before.before.before.before in
     (omega arith, room (all s) 5 s.requires.3 (omega arith) (omega arith), omega (arith, (netted c.before.before.before.before).long, s.requires.0))
 
-delivered : (k : After-put_figure-4) → Upto (delivered-from k) 6 k.put_figure-4.new.page
+delivered : (k : After-put_figure-4) → Upto (delivered_from k) 6 k.put_figure-4.new.page
 unfolding columns
 delivered k =
-    let s = netted-from k.before.before.before.before.before in
+    let s = netted_from k.before.before.before.before.before in
     next_written (take 5 (all s)) (column 34 42 (digits s.args.position.delivered)) s.args.page.now _ k.put_figure-4.new.page refl (all_take (λ c. length c.text ≤ width c) 6 (all s) s.requires.3) (netted k.before.before.before.before.before) k.put_figure-4.ensures
 
 pub put_figure-requires-5 : goal.put_figure-requires-5
 unfolding columns
 put_figure-requires-5 c =
-    let s = delivered-from c.before.before.before.before in
+    let s = delivered_from c.before.before.before.before in
     (omega arith, room (all s) 6 s.requires.3 (omega arith) (omega arith), omega (arith, (delivered c.before.before.before.before).long, s.requires.0))
 
-bought : (k : After-put_figure-5) → Upto (bought-from k) 7 k.put_figure-5.new.page
+bought : (k : After-put_figure-5) → Upto (bought_from k) 7 k.put_figure-5.new.page
 unfolding columns
 bought k =
-    let s = delivered-from k.before.before.before.before.before in
+    let s = delivered_from k.before.before.before.before.before in
     next_written (take 6 (all s)) (column 44 52 (digits s.args.position.bought)) s.args.page.now _ k.put_figure-5.new.page refl (all_take (λ c. length c.text ≤ width c) 7 (all s) s.requires.3) (delivered k.before.before.before.before.before) k.put_figure-5.ensures
 
 pub put_figure-requires-6 : goal.put_figure-requires-6
 unfolding columns
 put_figure-requires-6 c =
-    let s = bought-from c.before.before.before.before in
+    let s = bought_from c.before.before.before.before in
     (omega arith, room (all s) 7 s.requires.3 (omega arith) (omega arith), omega (arith, (bought c.before.before.before.before).long, s.requires.0))
 
-cash : (k : After-put_figure-6) → Upto (cash-from k) 8 k.put_figure-6.new.page
+cash : (k : After-put_figure-6) → Upto (cash_from k) 8 k.put_figure-6.new.page
 unfolding columns
 cash k =
-    let s = bought-from k.before.before.before.before.before in
+    let s = bought_from k.before.before.before.before.before in
     next_written (take 7 (all s)) (column 54 62 (digits s.args.position.cash)) s.args.page.now _ k.put_figure-6.new.page refl (all_take (λ c. length c.text ≤ width c) 8 (all s) s.requires.3) (bought k.before.before.before.before.before) k.put_figure-6.ensures
 
 pub put_figure-requires-7 : goal.put_figure-requires-7
 unfolding columns
 put_figure-requires-7 c =
-    let s = cash-from c.before.before.before.before in
+    let s = cash_from c.before.before.before.before in
     (omega arith, room (all s) 8 s.requires.3 (omega arith) (omega arith), omega (arith, (cash c.before.before.before.before).long, s.requires.0))
 
-unsettled : (k : After-put_figure-7) → Upto (unsettled-from k) 9 k.put_figure-7.new.page
+unsettled : (k : After-put_figure-7) → Upto (unsettled_from k) 9 k.put_figure-7.new.page
 unfolding columns
 unsettled k =
-    let s = cash-from k.before.before.before.before.before in
+    let s = cash_from k.before.before.before.before.before in
     next_written (take 8 (all s)) (column 64 72 (digits s.args.position.unsettled)) s.args.page.now _ k.put_figure-7.new.page refl (all_take (λ c. length c.text ≤ width c) 9 (all s) s.requires.3) (cash k.before.before.before.before.before) k.put_figure-7.ensures
 
 pub put_figure-requires-8 : goal.put_figure-requires-8
 unfolding columns
 put_figure-requires-8 c =
-    let s = unsettled-from c.before.before.before.before in
+    let s = unsettled_from c.before.before.before.before in
     (omega arith, room (all s) 9 s.requires.3 (omega arith) (omega arith), omega (arith, (unsettled c.before.before.before.before).long, s.requires.0))
 
-settlement : (k : After-put_figure-8) → Upto (settlement-from k) 10 k.put_figure-8.new.page
+settlement : (k : After-put_figure-8) → Upto (settlement_from k) 10 k.put_figure-8.new.page
 unfolding columns
 settlement k =
-    let s = unsettled-from k.before.before.before.before.before in
+    let s = unsettled_from k.before.before.before.before.before in
     next_written (take 9 (all s)) (column 74 78 (digits s.args.position.settlement.0)) s.args.page.now _ k.put_figure-8.new.page refl (all_take (λ c. length c.text ≤ width c) 10 (all s) s.requires.3) (unsettled k.before.before.before.before.before) k.put_figure-8.ensures
 
 pub bounds-page-79 : goal.bounds-page-79
-bounds-page-79 c = omega (arith, (settlement c.before.before.before).long, (kind-from c).requires.0)
+bounds-page-79 c = omega (arith, (settlement c.before.before.before).long, (kind_from c).requires.0)
 
-kind : (k : After-kind_letter) → Upto (kind-from k) 11 (set k.put_figure-8.new.page 79 k.kind_letter.result)
+kind : (k : After-kind_letter) → Upto (kind_from k) 11 (set k.put_figure-8.new.page 79 k.kind_letter.result)
 unfolding columns
 kind k =
-    let s = settlement-from k.before.before.before in
+    let s = settlement_from k.before.before.before in
     let page = k.put_figure-8.new.page in
     next_written (take 10 (all s)) (column 80 80 (kind_letter s.args.position.kind ∷ [])) s.args.page.now page (set page 79 k.kind_letter.result) refl (all_take (λ c. length c.text ≤ width c) 11 (all s) s.requires.3) (settlement k.before.before.before) (ap (set page 79) k.kind_letter.ensures)
 

@@ -43,11 +43,11 @@ few : (c : Else-missing-ne0) → (start c).args.core.positions ≤ 1024
 few c = (start c).requires.0.3.valid.fits.positions.held
 
 -- from where both rows are read, back to where the short's was, and to where both positions are there
-abbrev first-row : After-row_at-q → After-row_at-p
-first-row r = r.before.before
+abbrev first_row : After-row_at-q → After-row_at-p
+first_row r = r.before.before
 
 abbrev looked : After-row_at-q → Else-missing-ne0
-looked r = (first-row r).before.before
+looked r = (first_row r).before.before
 
 pub returns-then-missing-ne0 : goal.returns-then-missing-ne0
 returns-then-missing-ne0 c =
@@ -76,16 +76,16 @@ pub returns-then-number-ne0 : goal.returns-then-number-ne0
 returns-then-number-ne0 c =
     λ trades starts accounts h.
     rw c.refused-then-number-ne0.ensures
-    (pair_off_refused _ (numbers _ trades _ _ starts _ accounts) h _ _ _ _ _ (there (looked c.before.before.before.before.before)) (first-row c.before.before.before.before.before).row_at-p.ensures c.row_at-q.ensures c.unconfirmed_units-reserved.ensures c.pair_off_refusal-number.ensures _ c.if-number-ne0.true (start (looked c.before.before.before.before.before)).requires.1)
+    (pair_off_refused _ (numbers _ trades _ _ starts _ accounts) h _ _ _ _ _ (there (looked c.before.before.before.before.before)) (first_row c.before.before.before.before.before).row_at-p.ensures c.row_at-q.ensures c.unconfirmed_units-reserved.ensures c.pair_off_refusal-number.ensures _ c.if-number-ne0.true (start (looked c.before.before.before.before.before)).requires.1)
 
 pub set_off-requires : goal.set_off-requires
 set_off-requires c =
     let s = start (looked c.before.before.before.before.before.before.before.before.before) in
-    (_, _, _, pairing s.args.core (entry s) s.requires.0.3 s.args.x _ _ _ _ (there (looked c.before.before.before.before.before.before.before.before.before)) (first-row c.before.before.before.before.before.before.before.before.before).row_at-p.ensures c.row_at-q.ensures c.unconfirmed_units-reserved.ensures c.pair_off_refusal-number.ensures c.if-number-ne0.false _ s.requires.1)
+    (_, _, _, pairing s.args.core (entry s) s.requires.0.3 s.args.x _ _ _ _ (there (looked c.before.before.before.before.before.before.before.before.before)) (first_row c.before.before.before.before.before.before.before.before.before).row_at-p.ensures c.row_at-q.ensures c.unconfirmed_units-reserved.ensures c.pair_off_refusal-number.ensures c.if-number-ne0.false _ s.requires.1)
 
 pub returns : goal.returns
 returns c =
     λ trades starts accounts h.
-    let asked = pairing _ (numbers _ trades _ _ starts _ accounts) h _ _ _ _ _ (there (looked c.before.before.before.before.before.before.before.before.before.before.before)) (first-row c.before.before.before.before.before.before.before.before.before.before.before).row_at-p.ensures c.row_at-q.ensures c.unconfirmed_units-reserved.ensures c.pair_off_refusal-number.ensures c.if-number-ne0.false _ (start (looked c.before.before.before.before.before.before.before.before.before.before.before)).requires.1 in
+    let asked = pairing _ (numbers _ trades _ _ starts _ accounts) h _ _ _ _ _ (there (looked c.before.before.before.before.before.before.before.before.before.before.before)) (first_row c.before.before.before.before.before.before.before.before.before.before.before).row_at-p.ensures c.row_at-q.ensures c.unconfirmed_units-reserved.ensures c.pair_off_refusal-number.ensures c.if-number-ne0.false _ (start (looked c.before.before.before.before.before.before.before.before.before.before.before)).requires.1 in
     rw c.done.ensures
-    (pair_off_done _ (numbers _ trades _ _ starts _ accounts) h _ _ _ _ _ (there (looked c.before.before.before.before.before.before.before.before.before.before.before)) (first-row c.before.before.before.before.before.before.before.before.before.before.before).row_at-p.ensures c.row_at-q.ensures c.unconfirmed_units-reserved.ensures c.pair_off_refusal-number.ensures c.if-number-ne0.false _ _ _ _ _ (c.set_off.ensures _ _ _ asked))
+    (pair_off_done _ (numbers _ trades _ _ starts _ accounts) h _ _ _ _ _ (there (looked c.before.before.before.before.before.before.before.before.before.before.before)) (first_row c.before.before.before.before.before.before.before.before.before.before.before).row_at-p.ensures c.row_at-q.ensures c.unconfirmed_units-reserved.ensures c.pair_off_refusal-number.ensures c.if-number-ne0.false _ _ _ _ _ (c.set_off.ensures _ _ _ asked))

@@ -47,8 +47,8 @@ abbrev turn : After-share_of-units → At-loop-i
 turn c = c.before.before.before.before.before
 
 -- where the turn of the outer loop began, with a delivery day
-abbrev day-begun : At-loop-i → At-deal
-day-begun c = c.before.before.before.before.before
+abbrev day_begun : At-loop-i → At-deal
+day_begun c = c.before.before.before.before.before
 
 -- where the function began, from where the short is lowered
 abbrev opened : After-lower → Start
@@ -59,22 +59,22 @@ abbrev started : At-deal → Start
 started c = opened c.before
 
 -- the share with which the quantity is dealt out
-abbrev dealt-share : Then-left-eq0 → After-share_of-units
-dealt-share c = c.before.before.before.before.before.before
+abbrev dealt_share : Then-left-eq0 → After-share_of-units
+dealt_share c = c.before.before.before.before.before.before
 
 -- the walk is at a place in use
-in_table : (c : After-share_of-units) → (turn c).loop-i.i < (started (day-begun (turn c))).args.count
+in_table : (c : After-share_of-units) → (turn c).loop-i.i < (started (day_begun (turn c))).args.count
 in_table c = c.loop-i-test.true
 
 -- a position of the day that the walk is at is due
 is_due : (c : After-share_of-units)
-    → (get_or (rows_of (turn c).loop-i.rows) (turn c).loop-i.i no_position).settlement.0 ≤ (started (day-begun (turn c))).args.day.0
+    → (get_or (rows_of (turn c).loop-i.rows) (turn c).loop-i.i no_position).settlement.0 ≤ (started (day_begun (turn c))).args.day.0
 is_due c = omega (arith, eqb-true, c.if-settlement_at-settlement.true-raw, c.settlement_at.ensures, (turn c).if-day-settlement.false)
 
 -- what a long takes is its share of what is left
-own-share : (c : After-share_of-units)
-    → c.share_of-units.result ≡ share_of (day-begun (turn c)).row_at-own.result.security (turn c).loop-i.left (get_or (rows_of (turn c).loop-i.rows) (turn c).loop-i.i no_position)
-own-share c = rw c.row_at-long.ensures at c.share_of-units.ensures
+own_share : (c : After-share_of-units)
+    → c.share_of-units.result ≡ share_of (day_begun (turn c)).row_at-own.result.security (turn c).loop-i.left (get_or (rows_of (turn c).loop-i.rows) (turn c).loop-i.i no_position)
+own_share c = rw c.row_at-long.ensures at c.share_of-units.ensures
 
 -- the walk's state when the short is lowered
 abbrev begun : After-lower → State
@@ -164,14 +164,14 @@ deal-smaller-else-settlement_at-settlement c =
 
 pub deal-preserved-else-settlement_at-settlement : goal.deal-preserved-else-settlement_at-settlement
 deal-preserved-else-settlement_at-settlement c =
-    (walk_join _ _ _ _ _ _ _ _ (day-begun c.before.before.before).deal.invariant.0 c.loop-i.invariant.0, c.loop-i.invariant.3, c.loop-i.invariant.4, c.loop-i.invariant.5, c.loop-i.invariant.6, (λ s f. c.loop-i.invariant.7 s ((day-begun c.before.before.before).deal.invariant.5 s f)))
+    (walk_join _ _ _ _ _ _ _ _ (day_begun c.before.before.before).deal.invariant.0 c.loop-i.invariant.0, c.loop-i.invariant.3, c.loop-i.invariant.4, c.loop-i.invariant.5, c.loop-i.invariant.6, (λ s f. c.loop-i.invariant.7 s ((day_begun c.before.before.before).deal.invariant.5 s f)))
 
 pub deal-smaller : goal.deal-smaller
 deal-smaller c = omega arith
 
 pub deal-preserved : goal.deal-preserved
 deal-preserved c =
-    (walk_join _ _ _ _ _ _ _ _ (day-begun c.before).deal.invariant.0 c.loop-i.invariant.0, c.loop-i.invariant.3, c.loop-i.invariant.4, c.loop-i.invariant.5, c.loop-i.invariant.6, (λ s f. c.loop-i.invariant.7 s ((day-begun c.before).deal.invariant.5 s f)))
+    (walk_join _ _ _ _ _ _ _ _ (day_begun c.before).deal.invariant.0 c.loop-i.invariant.0, c.loop-i.invariant.3, c.loop-i.invariant.4, c.loop-i.invariant.5, c.loop-i.invariant.6, (λ s f. c.loop-i.invariant.7 s ((day_begun c.before).deal.invariant.5 s f)))
 
 pub row_at-long-requires : goal.row_at-long-requires
 row_at-long-requires c = omega arith
@@ -193,7 +193,7 @@ pub lower-requires-then-units-gt0 : goal.lower-requires-then-units-gt0
 lower-requires-then-units-gt0 c = (
   (turn c.before.before.before.before).loop-i.invariant.3,
   omega (arith, (turn c.before.before.before.before).loop-i.invariant.0.stands.few, in_table c.before.before.before.before),
-  record { enough = rw (own-share c.before.before.before.before) (share_open _ _ _); sized = here_sized _ _ (turn c.before.before.before.before).loop-i.invariant.0.stands (in_table c.before.before.before.before) },
+  record { enough = rw (own_share c.before.before.before.before) (share_open _ _ _); sized = here_sized _ _ (turn c.before.before.before.before).loop-i.invariant.0.stands (in_table c.before.before.before.before) },
 )
 
 pub overflow_sub-left : goal.overflow_sub-left
@@ -208,9 +208,9 @@ loop-i-smaller c = omega arith
 pub loop-i-preserved : goal.loop-i-preserved
 loop-i-preserved c =
     let a = turn c.before in
-    let share = due_share_is _ _ _ _ (is_due c.before) ∙ sym (own-share c.before) in
+    let share = due_share_is _ _ _ _ (is_due c.before) ∙ sym (own_share c.before) in
     let within = in_table c.before in
-    let more = walk_next _ _ _ _ _ _ _ (state (day-begun a).before c.if-units-gt0.rows c.if-units-gt0.sheet c.if-units-gt0.dealt c.if-units-gt0.left (a.loop-i.i + 1)) a.loop-i.invariant.0 within in (
+    let more = walk_next _ _ _ _ _ _ _ (state (day_begun a).before c.if-units-gt0.rows c.if-units-gt0.sheet c.if-units-gt0.dealt c.if-units-gt0.left (a.loop-i.i + 1)) a.loop-i.invariant.0 within in (
       ⊎_elim
           (λ w. more (stepped_some _ _ _ _ _ _ _ _ share w.if-units-gt0.true refl (omega (arith, a.loop-i.invariant.0.stands, within)) w.left-is refl (ap rows_of w.rows-is ∙ w.lower-then-units-gt0.ensures.0) (ap pieces_of w.sheet-is ∙ w.put_piece.ensures.pieces) w.dealt-is))
           (λ w. more (stepped_none _ _ _ _ _ _ (share ∙ omega (arith, w.if-units-gt0.false)) w.left-is refl (ap rows_of w.rows-is) (ap pieces_of w.sheet-is) w.dealt-is))
@@ -220,13 +220,13 @@ loop-i-preserved c =
       ⊎_elim (λ w. ap length w.rows-is ∙ w.lower-then-units-gt0.ensures.1) (λ w. ap length w.rows-is ∙ a.loop-i.invariant.3) c.if-units-gt0.branch-raw,
       ⊎_elim (λ w. ap length w.sheet-is ∙ w.put_piece.ensures.size) (λ w. ap length w.sheet-is ∙ a.loop-i.invariant.4) c.if-units-gt0.branch-raw,
       ⊎_elim
-          (λ w. closed_taken _ _ _ _ _ _ _ (ap rows_of w.rows-is ∙ w.lower-then-units-gt0.ensures.0) (own-share c.before) (omega (arith, w.if-left-eq0.false)) (omega (arith, a.loop-i.invariant.0.stands, within)) a.loop-i.invariant.5)
-          (λ w. closed_passed _ _ _ _ _ _ (ap rows_of w.rows-is) (own-share c.before) (omega (arith, w.if-units-gt0.false)) a.loop-i.invariant.6 a.loop-i.invariant.5)
+          (λ w. closed_taken _ _ _ _ _ _ _ (ap rows_of w.rows-is ∙ w.lower-then-units-gt0.ensures.0) (own_share c.before) (omega (arith, w.if-left-eq0.false)) (omega (arith, a.loop-i.invariant.0.stands, within)) a.loop-i.invariant.5)
+          (λ w. closed_passed _ _ _ _ _ _ (ap rows_of w.rows-is) (own_share c.before) (omega (arith, w.if-units-gt0.false)) a.loop-i.invariant.6 a.loop-i.invariant.5)
           c.if-units-gt0.branch-raw,
       ⊎_elim (λ w. omega (arith, w.left-is, w.if-left-eq0.false)) (λ w. omega (arith, w.left-is, a.loop-i.invariant.6)) c.if-units-gt0.branch-raw,
       ⊎_elim
-          (λ w. stays_piece (day-begun a).deal.dealt _ a.loop-i.dealt _ a.loop-i.invariant.7 _ _ _ _ (omega (arith, a.loop-i.invariant.0.stands, within)) a.loop-i.invariant.4 w.put_piece.ensures w.sheet-is w.dealt-is)
-          (λ w. stays_same (day-begun a).deal.dealt _ a.loop-i.dealt _ a.loop-i.invariant.7 _ _ w.sheet-is w.dealt-is)
+          (λ w. stays_piece (day_begun a).deal.dealt _ a.loop-i.dealt _ a.loop-i.invariant.7 _ _ _ _ (omega (arith, a.loop-i.invariant.0.stands, within)) a.loop-i.invariant.4 w.put_piece.ensures w.sheet-is w.dealt-is)
+          (λ w. stays_same (day_begun a).deal.dealt _ a.loop-i.dealt _ a.loop-i.invariant.7 _ _ w.sheet-is w.dealt-is)
           c.if-units-gt0.branch-raw,
     )
 
@@ -256,11 +256,11 @@ returns-then-day-settlement c =
 
 pub returns-then-left-eq0 : goal.returns-then-left-eq0
 returns-then-left-eq0 c =
-    let a = turn (dealt-share c) in
-    let d = day-begun a in
-    let share = due_share_is _ _ _ _ (is_due (dealt-share c)) ∙ sym (own-share (dealt-share c)) in
-    let within = in_table (dealt-share c) in
-    let last = state d.before c.lower-then-units-gt0.new.rows c.put_piece.new.sheet (a.loop-i.dealt + 1) (a.loop-i.left - (dealt-share c).share_of-units.result) (a.loop-i.i + 1) in
+    let a = turn (dealt_share c) in
+    let d = day_begun a in
+    let share = due_share_is _ _ _ _ (is_due (dealt_share c)) ∙ sym (own_share (dealt_share c)) in
+    let within = in_table (dealt_share c) in
+    let last = state d.before c.lower-then-units-gt0.new.rows c.put_piece.new.sheet (a.loop-i.dealt + 1) (a.loop-i.left - (dealt_share c).share_of-units.result) (a.loop-i.i + 1) in
     let w =
     walk_join _ _ _ _ _ _ _ _ (so_far d)
     (walk_next _ _ _ _ _ _ _ last a.loop-i.invariant.0 within

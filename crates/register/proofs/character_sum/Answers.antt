@@ -16,8 +16,8 @@ abbrev After-digit_sum-then-is_capital : Type 0
 After-digit_sum-then-is_capital = lts.After-digit_sum2 tie.the-claims reads.Pre reads.Post
 
 -- what a letter adds, and that it is little
-character-letter : (c : After-digit_sum-then-is_capital) → (c.digit_sum.result + c.digit_sum-then-is_capital.result ≡ digit_sums c.args.doubled (reverse (digits c.args.c))) × (c.digit_sum.result + c.digit_sum-then-is_capital.result ≤ 24)
-character-letter c =
+character_letter : (c : After-digit_sum-then-is_capital) → (c.digit_sum.result + c.digit_sum-then-is_capital.result ≡ digit_sums c.args.doubled (reverse (digits c.args.c))) × (c.digit_sum.result + c.digit_sum-then-is_capital.result ≤ 24)
+character_letter c =
     let v = c.value-v in
     let n = c.args.c in
     let d = c.args.doubled in
@@ -27,10 +27,10 @@ character-letter c =
     (rw (s, t) (letter_adds n d e), omega (arith, s, t, letter_most n e, digit_sum_most d (value n % 10), digit_sum_most (not d) (value n / 10)))
 
 pub overflow_add-result : goal.overflow_add-result
-overflow_add-result c = omega (arith, (character-letter c).1)
+overflow_add-result c = omega (arith, (character_letter c).1)
 
 pub returns-then-is_capital : goal.returns-then-is_capital
-returns-then-is_capital c = character-letter c
+returns-then-is_capital c = character_letter c
 
 pub returns-else-is_capital : goal.returns-else-is_capital
 returns-else-is_capital c =

@@ -53,8 +53,8 @@ short : (c : After-slice_known-2-1) → c.put_number-named.result ≤ 4
 short c =
     omega (arith, c.put_number-named.ensures.bytes, most8 c.args.account c.ranges.account.fits)
 
-page-long : (c : After-slice_known-2-1) → length (back 1 (set c.args.page.now 0 97) c.put_number-named.new.page) ≡ length c.args.page.now
-page-long c =
+page_long : (c : After-slice_known-2-1) → length (back 1 (set c.args.page.now 0 97) c.put_number-named.new.page) ≡ length c.args.page.now
+page_long c =
     let a = c.args in
     let d = c.put_number-named in
     back_length 1 (set a.page.now 0 97) d.new.page d.auto.page ∙ length-set a.page.now 0 97
@@ -63,31 +63,31 @@ pub overflow_add-named : goal.overflow_add-named
 overflow_add-named c = omega (arith, short c.before)
 
 pub slice_bounds-put_amount-count : goal.slice_bounds-put_amount-count
-slice_bounds-put_amount-count c = omega (arith, short c.before, page-long c.before, c.if-page-lt-LINE.false)
+slice_bounds-put_amount-count c = omega (arith, short c.before, page_long c.before, c.if-page-lt-LINE.false)
 
 pub slice_bounds-put_amount-start : goal.slice_bounds-put_amount-start
-slice_bounds-put_amount-start c = omega (arith, short c.before, page-long c.before, c.if-page-lt-LINE.false)
+slice_bounds-put_amount-start c = omega (arith, short c.before, page_long c.before, c.if-page-lt-LINE.false)
 
 pub put_amount-requires : goal.put_amount-requires
 put_amount-requires c =
     let d = c.put_number-named in
-    omega (arith, short c.before, page-long c.before, c.if-page-lt-LINE.false, length_lent (1 + d.result) (back 1 (set c.args.page.now 0 97) d.new.page), most_amount c.args.negative c.args.cents c.ranges.cents.fits)
+    omega (arith, short c.before, page_long c.before, c.if-page-lt-LINE.false, length_lent (1 + d.result) (back 1 (set c.args.page.now 0 97) d.new.page), most_amount c.args.negative c.args.cents c.ranges.cents.fits)
 
 -- the cents are put after it, in at most 22 bytes
 little : (c : After-slice_known-3-1) → c.put_amount.result ≤ 22
 little c =
     omega (arith, c.put_amount.ensures.bytes, most_amount c.args.negative c.args.cents c.ranges.cents.fits)
 
-all-long : (c : After-slice_known-3-1) → length (back (1 + c.put_number-named.result) (back 1 (set c.args.page.now 0 97) c.put_number-named.new.page) c.put_amount.new.page) ≡ length c.args.page.now
-all-long c =
+all_long : (c : After-slice_known-3-1) → length (back (1 + c.put_number-named.result) (back 1 (set c.args.page.now 0 97) c.put_number-named.new.page) c.put_amount.new.page) ≡ length c.args.page.now
+all_long c =
     let a = c.args in
     let d = c.put_number-named in
     let z = c.put_amount in
-    back_length (1 + d.result) (back 1 (set a.page.now 0 97) d.new.page) z.new.page z.auto.page ∙ page-long c.before.before.before.before
+    back_length (1 + d.result) (back 1 (set a.page.now 0 97) d.new.page) z.new.page z.auto.page ∙ page_long c.before.before.before.before
 
 room : (c : After-slice_known-3-1) → 1 + c.put_number-named.result + c.put_amount.result < length (back (1 + c.put_number-named.result) (back 1 (set c.args.page.now 0 97) c.put_number-named.new.page) c.put_amount.new.page)
 room c =
-    omega (arith, short c.before.before.before.before, little c, all-long c, c.if-page-lt-LINE.false)
+    omega (arith, short c.before.before.before.before, little c, all_long c, c.if-page-lt-LINE.false)
 
 pub overflow_add-end : goal.overflow_add-end
 overflow_add-end c = omega (arith, short c.before.before.before.before, little c)
@@ -103,7 +103,7 @@ shape_of-page c =
     let a = c.args in
     let d = c.put_number-named in
     let z = c.put_amount in
-    length-set (back (1 + d.result) (back 1 (set a.page.now 0 97) d.new.page) z.new.page) (1 + d.result + z.result) 10 ∙ all-long c
+    length-set (back (1 + d.result) (back 1 (set a.page.now 0 97) d.new.page) z.new.page) (1 + d.result + z.result) 10 ∙ all_long c
 
 pub returns : goal.returns
 returns c =

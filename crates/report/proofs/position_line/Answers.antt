@@ -71,12 +71,12 @@ long : (c : After-struct_known-7-1) → 80 ≤ length (set (start c).args.page.n
 long c = omega (arith, length-set (start c).args.page.now 0 115, (enough c).if-page-lt-LINE.false)
 
 -- the name has at most 10 bytes, the figures at most 66, and the line at most 80
-named-few : (c : After-struct_known-7-1) → length (numbers (names c)) ≤ 10
-named-few c =
+named_few : (c : After-struct_known-7-1) → length (numbers (names c)) ≤ 10
+named_few c =
     named_most (start c).args.number (start c).args.position.member (start c).ranges.number.fits (omega arith)
 
-figures-few : (c : After-struct_known-7-1) → length (numbers (figures (start c).args.position)) ≤ 66
-figures-few c =
+figures_few : (c : After-struct_known-7-1) → length (numbers (figures (start c).args.position)) ≤ 66
+figures_few c =
     figures_most (figures (start c).args.position) (omega (arith, c.struct_known-7-1.given), (omega (arith, c.struct_known-7-1.given), (omega (arith, c.struct_known-7-1.given), (omega (arith, c.struct_known-7-1.given), (omega (arith, c.struct_known-7-1.given), (omega (arith, c.struct_known-7-1.given), tt))))))
 
 brief : (c : After-struct_known-7-1) → length (position_line (start c).args.number (start c).args.position) ≤ LINE
@@ -91,7 +91,7 @@ slice_bounds-put_numbers-start c = omega (arith, long c)
 
 pub put_numbers-named-requires : goal.put_numbers-named-requires
 put_numbers-named-requires c =
-    omega (arith, long c.before.before, length_lent 1 (set (start c.before.before).args.page.now 0 115), named-few c.before.before)
+    omega (arith, long c.before.before, length_lent 1 (set (start c.before.before).args.page.now 0 115), named_few c.before.before)
 
 -- the page after the letter, the number and the member, in at most 11 bytes
 abbrev page₁ : After-slice_known-2-1 → List ℕ
@@ -104,7 +104,7 @@ named m =
     put_lent (115 ∷ []) page (set page 0 115) 1 (put_byte [] page page 0 (put_none page) 115 (omega (arith, (enough (begun m)).if-page-lt-LINE.false))) (numbers (names (begun m))) d.new.page d.result d.ensures
 
 short : (m : After-slice_known-2-1) → m.put_numbers-named.result ≤ 10
-short m = omega (arith, m.put_numbers-named.ensures.bytes, named-few (begun m))
+short m = omega (arith, m.put_numbers-named.ensures.bytes, named_few (begun m))
 
 long₁ : (m : After-slice_known-2-1) → 80 ≤ length (page₁ m)
 long₁ m =
@@ -148,7 +148,7 @@ slice_bounds-put_numbers-start-2 c = omega (arith, short c.before, long₂ c)
 
 pub put_numbers-requires : goal.put_numbers-requires
 put_numbers-requires c =
-    omega (arith, short c.before.before.before, long₂ c.before.before, figures-few (begun c.before.before.before), length_lent (1 + c.put_numbers-named.result + 2) (page₂ c.before.before))
+    omega (arith, short c.before.before.before, long₂ c.before.before, figures_few (begun c.before.before.before), length_lent (1 + c.put_numbers-named.result + 2) (page₂ c.before.before))
 
 -- where the line ends, and the page after the figures
 abbrev end : After-slice_known-3-1 → ℕ
@@ -166,7 +166,7 @@ long₃ e =
 little : (e : After-slice_known-3-1) → end e ≤ 79
 little e =
     let m = (sided e).before in
-    omega (arith, e.put_numbers.ensures.bytes, figures-few (begun m), short m)
+    omega (arith, e.put_numbers.ensures.bytes, figures_few (begun m), short m)
 
 pub overflow_add-end : goal.overflow_add-end
 overflow_add-end c = omega (arith, little c)

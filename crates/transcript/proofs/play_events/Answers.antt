@@ -60,14 +60,14 @@ pub overflow_add-used : goal.overflow_add-used
 overflow_add-used c = omega (arith, c.loop-next.invariant.0.fits)
 
 -- the page has room for one more event
-room-taken : (c : Then-used-room) → c.loop-next.used + BLOCK ≤ length c.args.page.now
-room-taken c = leb-true _ _ c.if-used-room.true-raw
+room_taken : (c : Then-used-room) → c.loop-next.used + BLOCK ≤ length c.args.page.now
+room_taken c = leb-true _ _ c.if-used-room.true-raw
 
 within : (c : Then-used-room) → c.loop-next.used ≤ length c.loop-next.page
-within c = omega (arith, room-taken c, showing.same_length _ _ _ _ _ _ _ _ _ _ c.loop-next.invariant.0)
+within c = omega (arith, room_taken c, showing.same_length _ _ _ _ _ _ _ _ _ _ c.loop-next.invariant.0)
 
-room-lent : (c : Then-used-room) → BLOCK ≤ length (lent c.loop-next.used c.loop-next.page)
-room-lent c = room_left _ _ _ _ _ _ _ _ _ _ c.loop-next.invariant.0 (room-taken c)
+room_lent : (c : Then-used-room) → BLOCK ≤ length (lent c.loop-next.used c.loop-next.page)
+room_lent c = room_left _ _ _ _ _ _ _ _ _ _ c.loop-next.invariant.0 (room_taken c)
 
 pub trade-last-requires : goal.trade-last-requires
 trade-last-requires c = (held c.before.before.before.before).lent.trades
@@ -143,7 +143,7 @@ overflow_cast-next c = omega (arith, c.loop-next-test.true)
 
 pub overflow_add-used-in-loop-next : goal.overflow_add-used-in-loop-next
 overflow_add-used-in-loop-next c =
-    omega (arith, c.answer_lines-used.ensures.most, c.loop-next.invariant.0.fits, room-taken c.before.before.before.before.before.before.before)
+    omega (arith, c.answer_lines-used.ensures.most, c.loop-next.invariant.0.fits, room_taken c.before.before.before.before.before.before.before)
 
 pub loop-next-smaller : goal.loop-next-smaller
 loop-next-smaller c = omega (arith, c.loop-next-test.true)
@@ -154,7 +154,7 @@ loop-next-preserved c =
     let d = stepped c.before.before.before.before.before in
     let inside : k.loop-next.next < length (events_of k.args.file.now) = omega (arith, k.events_in-count.ensures, c.loop-next-test.true) in (
       one_reached _ _ _ _ k.loop-next.next _ _ _ _ c.match-event.last.core _ (numbers c.match-event.rows c.match-event.trades c.match-event.awards c.match-event.counts c.match-event.starts c.match-event.words (ledger_of c.match-event.credits c.match-event.debits)) c.event_at-event.result _ k.loop-next.used _ k.loop-next.invariant.0
-          inside c.event_at-event.ensures refl (room-taken c.before.before.before.before.before.before.before) (shown _ _ _ _ _ _ _ _ _ _ _ _ _ (room-lent c.before.before.before.before.before.before.before) d c.answer_lines-used.ensures),
+          inside c.event_at-event.ensures refl (room_taken c.before.before.before.before.before.before.before) (shown _ _ _ _ _ _ _ _ _ _ _ _ _ (room_lent c.before.before.before.before.before.before.before) d c.answer_lines-used.ensures),
       d.places,
       more_filled _ _ _ _ k.loop-next.next c.event_at-event.result k.args.sheet.now _ _ k.loop-next.invariant.0.low inside c.event_at-event.ensures k.loop-next.invariant.0.played'.book k.loop-next.invariant.2 d.filled,
     )
