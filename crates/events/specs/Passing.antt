@@ -6,7 +6,7 @@ use Rattle.std.proofs.Math.ListN.{get_or, replicate}
 use Rattle.laws.specs.Lists.{All, range}
 use Rattle.laws.specs.Words.{word16_at, word32_at, bytes16, bytes32}
 use Rattle.laws.specs.WordLaws.{bytes16_word, bytes32_word, word16_part, word32_part}
-use Rattle.laws.specs.Parts.{get_d_part}
+use Rattle.laws.specs.Parts.{get_or_part}
 use Rattle.laws.specs.Alls.{all_anywhere}
 use Rattle.events.specs.declared.Event.{Event}
 use Rattle.events.specs.declared.Fields.{Fields}
@@ -19,12 +19,12 @@ pub fields_part : (file : List ℕ) (at : ℕ) → fields_at (take BODY (drop at
 unfolding fields_at
 fields_part file at =
     let subject = word16_part file at BODY SUBJECT_AT (omega arith) in
-    let one = get_d_part file at BODY FIRST_AT 0 (omega arith) in
-    let two = get_d_part file at BODY SECOND_AT 0 (omega arith) in
+    let one = get_or_part file at BODY FIRST_AT 0 (omega arith) in
+    let two = get_or_part file at BODY SECOND_AT 0 (omega arith) in
     let quantity = word32_part file at BODY QUANTITY_AT (omega arith) in
     let price = word32_part file at BODY PRICE_AT (omega arith) in
-    let kind_one = get_d_part file at BODY FIRST_KIND_AT 0 (omega arith) in
-    let kind_two = get_d_part file at BODY SECOND_KIND_AT 0 (omega arith) in
+    let kind_one = get_or_part file at BODY FIRST_KIND_AT 0 (omega arith) in
+    let kind_two = get_or_part file at BODY SECOND_KIND_AT 0 (omega arith) in
     λ i. record { subject = subject i; first = one i; second = two i; quantity = quantity i; price = price i; firstkind = kind_one i; secondkind = kind_two i }
 
 -- the bytes of a body in which its fields stand, the others 0

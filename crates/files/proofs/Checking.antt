@@ -8,7 +8,7 @@ use lib.Seq.{drop-drop, drop-cons, length-take-le}
 use borrow.Author.Tests.{lt-ltb, le-ltb, eq-eqb, ne_eqb}
 use Rattle.laws.specs.Limits.{EVENTS}
 use Rattle.laws.specs.Refusals.{Reason, first, first_past, first_there}
-use Rattle.laws.specs.Parts.{get_d_part}
+use Rattle.laws.specs.Parts.{get_or_part}
 use Rattle.laws.specs.Words.{word16_at}
 use Rattle.events.specs.Layout.{BODY}
 use Rattle.files.specs.Layout.{WIDTH_AT, HEADER}
@@ -30,7 +30,7 @@ module _ (file : List ℕ) (n : ℕ) (long : length file ≡ size n) where
   left_more i h =
       ap (λ (kinds : List ℕ). checks kinds (drop (BODY * i) (bodies_in file n))) (drop-cons (kinds_in file n) i 0 (omega (arith, length_kinds)))
       ∙ ap₂ (λ (here rest : List Reason). here ++ rest)
-      (ap₂ reasons (get_d_part file HEADER n i 0 h) (body_place file (HEADER + n) i))
+      (ap₂ reasons (get_or_part file HEADER n i 0 h) (body_place file (HEADER + n) i))
       (ap (checks (drop (suc i) (kinds_in file n))) (drop-drop BODY (BODY * i) (bodies_in file n) ∙ ap (λ (k : ℕ). drop k (bodies_in file n)) (next i)))
     where
       next : (i : ℕ) → BODY * i + BODY ≡ BODY * suc i

@@ -10,7 +10,7 @@ use lib.Dec.{leb}
 use borrow.Author.Tests.{leb-true, leb-false}
 use Rattle.laws.specs.Limits.{EVENTS}
 use Rattle.laws.specs.Asked.{Said, passed, failed, ask}
-use Rattle.laws.specs.Parts.{get_d_part, padded, padded_more, padded_take}
+use Rattle.laws.specs.Parts.{get_or_part, padded, padded_more, padded_take}
 use Rattle.events.specs.declared.Event.{Event}
 use Rattle.events.specs.Layout.{BODY}
 use Rattle.events.specs.Body.{fields_at, event_from, event_read}
@@ -43,7 +43,7 @@ pub event_place : (file : List ℕ) (n i : ℕ) → n ≡ count file → i < n �
 unfolding events_of
 event_place file n i e h =
     rw (← e)
-    (ap₂ event_from (sym (get_d_part file HEADER n i 0 h)) (sym (fields_part file (HEADER + n + BODY * i)) ∙ ap (λ (b : List ℕ). fields_at b 0) (sym (body_place file (HEADER + n) i)))
+    (ap₂ event_from (sym (get_or_part file HEADER n i 0 h)) (sym (fields_part file (HEADER + n + BODY * i)) ∙ ap (λ (b : List ℕ). fields_at b 0) (sym (body_place file (HEADER + n) i)))
     ∙ sym (event_paired (kinds_in file n) (bodies_in file n) i))
 
 -- ---- the events read into an array

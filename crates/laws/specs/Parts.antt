@@ -71,8 +71,8 @@ module _ {A : Type 0} where
   sets_front l vs h = sets-eq vs l 0 (omega arith) ∙ ap (λ (k : ℕ). vs ++ drop k l) (zero-add (length vs))
 
   -- an element of the n that stand from a place on
-  pub get_d_part : (l : List A) (at n j : ℕ) (d : A) → j < n → get_or (take n (drop at l)) j d ≡ get_or l (at + j) d
-  get_d_part l at n j d h = get_or-take n (drop at l) j d h ∙ get_or-drop at l j d
+  pub get_or_part : (l : List A) (at n j : ℕ) (d : A) → j < n → get_or (take n (drop at l)) j d ≡ get_or l (at + j) d
+  get_or_part l at n j d h = get_or-take n (drop at l) j d h ∙ get_or-drop at l j d
 
   -- those n, element by element
   pub read_part : (l : List A) (d : A) (at n : ℕ) → at + n ≤ length l → map (λ j. get_or l j d) (range at n) ≡ take n (drop at l)

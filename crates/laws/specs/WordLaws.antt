@@ -5,7 +5,7 @@ use Rattle.std.proofs.Math.Nat.{div-div-eq-div-mul}
 use Rattle.std.proofs.Math.Numerals.{towards_suc}
 use Rattle.laws.specs.Lists.{All, range}
 use Rattle.laws.specs.Words.{word_of, bytes_of, word16, word32, word16_at, word32_at, word64_at, bytes16, bytes32}
-use Rattle.laws.specs.Parts.{get_d_part, read_part}
+use Rattle.laws.specs.Parts.{get_or_part, read_part}
 
 -- a byte or a word is not 0
 abbrev pub nonzero : ℕ → Bool
@@ -49,11 +49,11 @@ bytes32_word a b c d ha hb hc hd =
 -- a word of the n bytes that stand from a place on
 pub word16_part : (l : List ℕ) (at n j : ℕ) → j + 2 ≤ n → word16_at (take n (drop at l)) j ≡ word16_at l (at + j)
 word16_part l at n j h =
-    rw (get_d_part l at n j 0 (omega arith), get_d_part l at n (j + 1) 0 (omega arith), add_assoc at j 1)
+    rw (get_or_part l at n j 0 (omega arith), get_or_part l at n (j + 1) 0 (omega arith), add_assoc at j 1)
 
 pub word32_part : (l : List ℕ) (at n j : ℕ) → j + 4 ≤ n → word32_at (take n (drop at l)) j ≡ word32_at l (at + j)
 word32_part l at n j h =
-    rw (get_d_part l at n j 0 (omega arith), get_d_part l at n (j + 1) 0 (omega arith), get_d_part l at n (j + 2) 0 (omega arith), get_d_part l at n (j + 3) 0 (omega arith), add_assoc at j 1, add_assoc at j 2, add_assoc at j 3)
+    rw (get_or_part l at n j 0 (omega arith), get_or_part l at n (j + 1) 0 (omega arith), get_or_part l at n (j + 2) 0 (omega arith), get_or_part l at n (j + 3) 0 (omega arith), add_assoc at j 1, add_assoc at j 2, add_assoc at j 3)
 
 -- the bytes of the word of eight bytes that begins at a place
 pub bytes64_at : (l : List ℕ) (at : ℕ) → at + 8 ≤ length l → ((i : ℕ) → get_or l i 0 < 256) → bytes_of 8 (word64_at l at) ≡ take 8 (drop at l)

@@ -8,7 +8,7 @@ use lib.ListN.{length, take, drop, length-append, length-drop}
 use lib.Seq.{length-take-le, take-take, drop-drop, ext_get_or}
 use Rattle.laws.specs.Lists.{each, range}
 use Rattle.laws.specs.Asked.{Within}
-use Rattle.laws.specs.Parts.{padded, length_padded, get_or_padded, get_d_part}
+use Rattle.laws.specs.Parts.{padded, length_padded, get_or_padded, get_or_part}
 use Rattle.register.specs.Register.{count, isin_at, isin_bytes, register_of, register_read}
 use Rattle.register.specs.Accepted.{Registered, accepted_size, read_accepted, read_registered}
 use Rattle.plain.specs.declared.Position.{Position}
@@ -126,7 +126,7 @@ part_padded n m l at h k =
     ext_get_or 0 (take m (drop at (padded 0 n l))) (take m (drop at l)) (long (padded 0 n l) (omega (arith, length_padded 0 n l)) ∙ sym (long l k))
     (λ i e.
     let few : i < m = omega (arith, long (padded 0 n l) (omega (arith, length_padded 0 n l))) in
-    get_d_part (padded 0 n l) at m i 0 few ∙ get_or_padded 0 n l (at + i) (omega arith) ∙ sym (get_d_part l at m i 0 few))
+    get_or_part (padded 0 n l) at m i 0 few ∙ get_or_padded 0 n l (at + i) (omega arith) ∙ sym (get_or_part l at m i 0 few))
 
 -- and of a list that is cut off after it
 part_taken : (n m : ℕ) (l : List ℕ) (at : ℕ) → at + m ≤ n → take m (drop at (take n l)) ≡ take m (drop at l)

@@ -294,7 +294,7 @@ fn balance_line(page: &mut [u8], account: u8, credit: u64, debit: u64) -> usize
 
 // The lines of the accounts that are not zero, by rising number. The page has at least 80 bytes for each of 64.
 pub fn account_lines(page: &mut [u8], credits: &[u64; ACCOUNTS], debits: &[u64; ACCOUNTS]) -> usize
-    ensures { Wrote (LINE * ACCOUNTS) (account_lines (record { credits = credits.entry.now; debits = debits.now })) page.old page.new result }
+    ensures { Wrote (LINE * ACCOUNTS) (account_lines (record { credits = credits.now; debits = debits.now })) page.old page.new result }
 {
     if page.len() < LINE * ACCOUNTS {
         return 0;

@@ -5,7 +5,7 @@ use mathlib.Core.Path.{◌≡◌, refl, ap, sym, ◌∙◌}
 use mathlib.Core.List.{List, [], ◌∷◌, ◌++◌}
 use lib.ListN.{length, get_or, take, set, length-set}
 use lib.Seq.{sets, take-suc, take_all, length-take-le}
-use Rattle.laws.specs.Parts.{sets_append, get_d_part}
+use Rattle.laws.specs.Parts.{sets_append, get_or_part}
 use Rattle.page.specs.Page.{isin_of}
 use Rattle.page.proofs.Laying.{length_isin}
 use Rattle.page.proofs.put_isin.Goals as goal
@@ -44,7 +44,7 @@ loop-i-preserved c =
     let isin = isin_of a.isins.now a.security in
     let twelve = length_isin a.isins.now a.security c.requires.1 c.requires.2 in
     let from = 12 * (a.security - 1) in
-    let byte : get_or a.isins.now (from + k.i) 0 ≡ get_or isin k.i 0 = sym (get_d_part a.isins.now from 12 k.i 0 (omega arith)) in
+    let byte : get_or a.isins.now (from + k.i) 0 ≡ get_or isin k.i 0 = sym (get_or_part a.isins.now from 12 k.i 0 (omega arith)) in
     let more : take k.i isin ++ (get_or a.isins.now (from + k.i) 0 ∷ []) ≡ take (k.i + 1) isin =
     ap (λ (x : ℕ). take k.i isin ++ (x ∷ [])) byte ∙ sym (ap (λ (n : ℕ). take n isin) (add-one k.i) ∙ take-suc isin k.i 0 (omega (arith, twelve))) in (
       omega arith,

@@ -6,7 +6,7 @@ use mathlib.Core.Path.{◌≡◌, refl, ap, sym, ◌∙◌}
 use mathlib.Core.List.{List, [], ◌∷◌, ◌++◌}
 use lib.ListN.{length, get_or, take, set, length-set}
 use lib.Seq.{sets, take-suc, take_all, length-take-le}
-use Rattle.laws.specs.Parts.{sets_append, get_d_part}
+use Rattle.laws.specs.Parts.{sets_append, get_or_part}
 use Rattle.page.specs.Page.{isin_of}
 use Rattle.page.proofs.Laying.{length_isin}
 use Rattle.page.proofs.put_isin.Given as goal
