@@ -7,7 +7,8 @@ A name turns where it is declared in an .antt file of crates/: the humps of `ste
 underscores. Types, facts and modules keep their upper camel case. Where a lemma would get the name of a definition it is given
 the ending `_lem`. A name that is imported from the toolchain's libraries stays. What turns: .antt files whole, .rt files whole
 (the code has no name of either form), must-fail edits whole, and code spans of the pages in docs/ and README.md.
-Functions of src/, exported names, strings, inputs and outputs keep their names. A second run finds nothing to turn.
+Functions of src/, exported names, strings, inputs and outputs keep their names. It goes by the older form of proofs (Proof.antt), and stops
+where a proof has today's form already, in which goals are declared that it would take for lemmas.
 """
 
 import collections
@@ -58,7 +59,7 @@ def spelled(name):
         return name.replace("-", "_")
     if not re.match(r"[a-z]", name):
         return name
-    name = name.replace("getD", "get_or")
+    name = name.replace("getD", "get_or").replace("get_d_", "get_or_")
     humps = re.sub(r"(?<=[a-z0-9])([A-Z])(?=[a-z0-9]|$|-|')", lambda m: "_" + m.group(1).lower(), name)
     return humps.replace("-", "_")
 
@@ -94,6 +95,8 @@ def turned(text, rows):
 
 
 def main():
+    if next(texts("Answers.antt", "Invariants.antt"), None) and any(is_function_proof(p) for p in texts("Answers.antt", "Invariants.antt")):
+        raise SystemExit("names.py: a proof has today's form already: nothing was turned")
     rows = table()
     for path in texts(".antt", ".rt", ".edit"):
         own = dict(rows)
