@@ -8,13 +8,13 @@ ghost use Rattle.laws.specs.Limits.{ATTEMPTS};
 ghost use Rattle.events.specs.declared.Event.TheVariants as event;
 ghost use Rattle.plain.specs.Calls.{call};
 ghost use Rattle.machine.specs.Cores.{attempted_core};
-ghost use Rattle.machine.specs.View.{Numbers, on_rows, on_awards, on_words, Held, CalledBare};
+ghost use Rattle.machine.specs.declared.Numbers.{Numbers};
+ghost use Rattle.machine.specs.View.{on_rows, on_awards, on_words, Held, CalledBare};
 
 use crate::refusal::{attempt_refusal, auction_refusal, award_refusal, offer_refusal};
 use events::{Attempt, Offer};
-use laws::{AWARD_CELLS, POSITION_CELLS, SECURITIES};
+use laws::{AWARD_CELLS, POSITION_CELLS, Refusal, SECURITIES};
 use machine::{Answered, Core, class_of, done, latest_of, price_of, refused};
-use refusals::NOT_THERE;
 
 // The position is marked, and its auction opens without an offer.
 fn open_auction(core: Core, position: u16, ceiling: u64) -> Core
@@ -40,7 +40,7 @@ pub fn attempt(core: Core, rows: &[u32; POSITION_CELLS], a: Attempt) -> Answered
     ensures { (others : Numbers) → Held core (on_rows others rows.now) → CalledBare core (on_rows others rows.now) (call (event.Attempt a) 0) result.core (on_rows others rows.now) result.outcome result.pieces }
 {
     if !refusals::is_within(1, core.positions, a.position as usize) {
-        return refused(core, NOT_THERE);
+        return refused(core, Refusal::NotThere);
     }
     let place = (a.position - 1) as usize;
     let p = rows::row_at(rows, place);
@@ -48,7 +48,7 @@ pub fn attempt(core: Core, rows: &[u32; POSITION_CELLS], a: Attempt) -> Answered
     let latest = latest_of(core.prices, p.security);
     let today = refusals::step_today(class, core.day, p);
     let marked = auction::is_marked(core.marks, a.position);
-    let number = attempt_refusal(
+    if let Err(refusal) = attempt_refusal(
         p,
         core.day,
         today,
@@ -56,9 +56,8 @@ pub fn attempt(core: Core, rows: &[u32; POSITION_CELLS], a: Attempt) -> Answered
         latest,
         core.marks.count,
         marked,
-    );
-    if number != 0 {
-        return refused(core, number);
+    ) {
+        return refused(core, refusal);
     }
     let ceiling = rules::ceiling_of(class, price_of(latest));
     let after = open_auction(core, a.position, ceiling);
@@ -75,17 +74,20 @@ pub fn offer(
     requires { (others : Numbers) × Held core (on_words (on_rows others rows.now) words.now) }
     ensures { (others : Numbers) → Held core (on_words (on_rows others rows.now) words.now) → CalledBare core (on_words (on_rows others rows.now) words.now) (call (event.Offer o) 0) result.core (on_words (on_rows others rows.now) words.now) result.outcome result.pieces }
 {
-    let first = offer_refusal(core.positions, core.auction.position, o);
-    if first != 0 {
-        return refused(core, first);
+    if let Err(refusal) = offer_refusal(core.positions, core.auction.position, o) {
+        return refused(core, refusal);
     }
     let place = (o.position - 1) as usize;
     let short = rows::row_at(rows, place);
     let word = failing::word_of(words, short.security);
     let fails = failing::is_failing(word, o.offerer);
-    let number = auction_refusal(fails, core.auction.ceiling, core.auction.count, o.price);
-    if number != 0 {
-        return refused(core, number);
+    if let Err(refusal) = auction_refusal(
+        fails,
+        core.auction.ceiling,
+        core.auction.count,
+        o.price,
+    ) {
+        return refused(core, refusal);
     }
     let mut entered = core.auction;
     let n = entered.count;
@@ -106,9 +108,8 @@ pub fn award(
     requires { (others : Numbers) × Held core (on_awards (on_rows others rows.now) awards.old) }
     ensures { (others : Numbers) → Held core (on_awards (on_rows others rows.now) awards.old) → CalledBare core (on_awards (on_rows others rows.now) awards.old) (call (event.Award a) 0) result.core (on_awards (on_rows others rows.now) awards.new) result.outcome result.pieces }
 {
-    let number = award_refusal(core.positions, core.auction.position, a.position);
-    if number != 0 {
-        return refused(core, number);
+    if let Err(refusal) = award_refusal(core.positions, core.auction.position, a.position) {
+        return refused(core, refusal);
     }
     let place = (a.position - 1) as usize;
     let short = rows::row_at(rows, place);

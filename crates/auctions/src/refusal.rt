@@ -1,102 +1,105 @@
-// Which number turns an attempt, an offer or an award down.
+// What turns an attempt, an offer or an award down.
 ghost use Rattle.std.specs.Prelude.{◌≡◌};
+ghost use Rattle.laws.specs.Answers.{number_in};
 ghost use Rattle.laws.specs.Refusals.{first};
 ghost use Rattle.plain.specs.Refusals.{attempt_reasons, offer_reasons, auction_reasons, award_reasons};
 
 use events::Offer;
-use laws::{ATTEMPTS, BusinessDay, OFFERS};
-use plain::{LatestPrice, Position};
+use laws::{ATTEMPTS, BusinessDay, OFFERS, Refusal};
+use plain::{Latest, Position};
 use refusals::{
-    ABOVE_CEILING, ATTEMPTED, AUCTION, FAILING, LONG, NO_MEMBER, NO_PRICE, NOT_ENOUGH, NOT_THERE,
-    OFFERS_FULL, OLD_PRICE, OUTSIDE_WINDOW, WRONG_PRICE, WRONG_QUANTITY, is_given_before,
-    is_member, is_never, is_price, is_quantity, is_settled, is_within, runs_on,
+    is_given_before, is_member, is_never, is_price, is_quantity, is_settled, is_within, runs_on,
 };
-use rules::{ATTEMPT, Step};
+use rules::Step;
 
-pub fn award_refusal(held: usize, auction: u16, position: u16) -> u8
-    ensures { result ≡ first (award_reasons held auction position) }
+#[tactic(auto, unfolding(plain::specs::Refusals::award_reasons))]
+pub fn award_refusal(held: usize, auction: u16, position: u16) -> Result<(), Refusal>
+    ensures { number_in result ≡ first (award_reasons held auction position) }
 {
     if !is_within(1, held, position as usize) {
-        return NOT_THERE;
+        return Err(Refusal::NotThere);
     }
     if !runs_on(auction, position) {
-        return AUCTION;
+        return Err(Refusal::Auction);
     }
-    0
+    Ok(())
 }
 
+#[tactic(auto, unfolding(plain::specs::Refusals::attempt_reasons))]
 pub fn attempt_refusal(
     p: Position,
     day: BusinessDay,
     today: Step,
     auction: u16,
-    latest: LatestPrice,
+    latest: Option<Latest>,
     attempts: usize,
     marked: bool,
-) -> u8
-    ensures { result ≡ first (attempt_reasons p day.0 today auction latest attempts marked) }
+) -> Result<(), Refusal>
+    ensures { number_in result ≡ first (attempt_reasons p day.0 today auction latest attempts marked) }
 {
     if !p.short {
-        return LONG;
+        return Err(Refusal::Long);
     }
-    if rules::step_kind(today) != ATTEMPT {
-        return OUTSIDE_WINDOW;
+    if today != Step::Attempt {
+        return Err(Refusal::OutsideWindow);
     }
     if 0 < auction {
-        return AUCTION;
+        return Err(Refusal::Auction);
     }
     if is_never(latest) {
-        return NO_PRICE;
+        return Err(Refusal::NoPrice);
     }
     if is_given_before(day, latest) {
-        return OLD_PRICE;
+        return Err(Refusal::OldPrice);
     }
     if ATTEMPTS <= attempts {
-        return ATTEMPTED;
+        return Err(Refusal::Attempted);
     }
     if marked {
-        return ATTEMPTED;
+        return Err(Refusal::Attempted);
     }
     if is_settled(p.unsettled) {
-        return NOT_ENOUGH;
+        return Err(Refusal::NotEnough);
     }
-    0
+    Ok(())
 }
 
 // The refusals of an offer that its fields and the auction's position decide.
-pub fn offer_refusal(held: usize, auction: u16, o: Offer) -> u8
-    ensures { result ≡ first (offer_reasons held auction o) }
+#[tactic(auto, unfolding(plain::specs::Refusals::offer_reasons))]
+pub fn offer_refusal(held: usize, auction: u16, o: Offer) -> Result<(), Refusal>
+    ensures { number_in result ≡ first (offer_reasons held auction o) }
 {
     if !is_member(o.offerer) {
-        return NO_MEMBER;
+        return Err(Refusal::NoMember);
     }
     if !is_within(1, held, o.position as usize) {
-        return NOT_THERE;
+        return Err(Refusal::NotThere);
     }
     if !is_quantity(o.quantity) {
-        return WRONG_QUANTITY;
+        return Err(Refusal::WrongQuantity);
     }
     if !is_price(o.price) {
-        return WRONG_PRICE;
+        return Err(Refusal::WrongPrice);
     }
     if !runs_on(auction, o.position) {
-        return AUCTION;
+        return Err(Refusal::Auction);
     }
-    0
+    Ok(())
 }
 
 // Those after them, which the auction decides.
-pub fn auction_refusal(fails: bool, ceiling: u64, offers: usize, price: u32) -> u8
-    ensures { result ≡ first (auction_reasons fails ceiling offers price) }
+#[tactic(auto, unfolding(plain::specs::Refusals::auction_reasons))]
+pub fn auction_refusal(fails: bool, ceiling: u64, offers: usize, price: u32) -> Result<(), Refusal>
+    ensures { number_in result ≡ first (auction_reasons fails ceiling offers price) }
 {
     if fails {
-        return FAILING;
+        return Err(Refusal::Failing);
     }
     if ceiling < price as u64 {
-        return ABOVE_CEILING;
+        return Err(Refusal::AboveCeiling);
     }
     if OFFERS <= offers {
-        return OFFERS_FULL;
+        return Err(Refusal::OffersFull);
     }
-    0
+    Ok(())
 }

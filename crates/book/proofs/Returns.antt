@@ -1,4 +1,5 @@
 -- What a call in place leaves of a book's parts is what the call returns of the book as one value, on a sheet of any length.
+use Rattle.std.proofs.Common.{Err}
 use Prim.Native.Nat.{ℕ, zero, suc, ◌<◌}
 use native.Mathlib.Omega.{arith}
 use mathlib.Core.Path.{◌≡◌, refl, ap, sym, ◌∙◌, subst}
@@ -10,8 +11,8 @@ use Rattle.laws.specs.Refusals.{accepted}
 use Rattle.events.specs.declared.Event.{Event}
 use Rattle.events.specs.declared.Event.TheVariants as event
 use Rattle.plain.specs.declared.Piece.{Piece}
-use Rattle.plain.specs.declared.Outcome.{Outcome}
-use Rattle.plain.specs.declared.Outcome.TheVariants as outcome
+use Rattle.laws.specs.Answers.{Outcome}
+use Rattle.laws.specs.declared.Refusal.TheVariants.{SmallSheet}
 use Rattle.plain.specs.Book as plain
 use Rattle.plain.specs.Calls.{Call, call, is_discharge, hands_out}
 use Rattle.plain.specs.Refusals.{reasons, refusal}
@@ -29,7 +30,7 @@ use Rattle.book.specs.Stepping.{WithoutPieces, Stepped}
 
 -- a book is its core and its numbers
 same_book : (b after : Book) → (after.core ≡ b.core) × (numbers_in after ≡ numbers_in b) → after ≡ b
-same_book b after e i = record { core = e.0 i; rows = (e.1 i).rows; trades = (e.1 i).trades; awards = (e.1 i).awards; counts = (e.1 i).counts; starts = (e.1 i).starts; words = (e.1 i).words; credits = (e.1 i).ledger.credits; debits = (e.1 i).ledger.debits }
+same_book b after e i = record { core = e.0 i; lent = e.1 i }
 
 -- what a call returns of the book is what it leaves of the parts, and the other way round
 module _ (b after : Book) (o : Outcome) (xs : List Piece) where
@@ -127,7 +128,7 @@ module _ (b : Book) (e : Event) (n : ℕ) where
   -- an event whose sheet, if it has one, is long enough, by the call in place on one of 1,024 places
   pub stepped : refusal (view b) (call e 1024) ≡ refusal (view b) (call e n) → (after : Book) (o : Outcome) (sheet left : List ℕ) (made : ℕ)
       → CalledOn b.core (numbers_in b) (call e 1024) sheet after.core (numbers_in after) left o made
-      → Stepped b e n (record { book = after; outcome = o; pieces = piece_table left made })
+      → Stepped b e n after (record { outcome = o; pieces = piece_table left made })
   unfolding pieces
   stepped same after o sheet left made d =
       record {
@@ -136,18 +137,18 @@ module _ (b : Book) (e : Event) (n : ℕ) where
       }
 
   -- a discharge on a sheet that is too small
-  pub too_small : is_discharge e ≡ true → n < 1024 → (r : Discharged) → Valid b → WithoutPieces (record { book = b; outcome = outcome.Refused 8 }) r → Stepped b e n r
+  pub too_small : is_discharge e ≡ true → n < 1024 → (r : Discharged) → Valid b → WithoutPieces (Err SmallSheet) r → Stepped b e n b r
   unfolding view
   too_small d small r v w =
       record {
         returned =
-            rw (w.book, w.outcome, w.pieces)
-            (returned b b (outcome.Refused 8) [] (call e n)
-            (refused b.core (numbers_in b) (call e n) 8 v.held (short_sheet (view b) e n d (lt-ltb n 1024 small)) (omega arith)).called);
+            rw (w.outcome, w.pieces)
+            (returned b b (Err SmallSheet) [] (call e n)
+            (refused b.core (numbers_in b) (call e n) SmallSheet v.held (short_sheet (view b) e n d (lt-ltb n 1024 small))).called);
         pieces_fit = w.pieces_fit;
       }
 
   -- an event that is no discharge returns no piece
-  pub without_sheet : is_discharge e ≡ false → (r : Discharged) → Stepped b e n r → Returned b (call e n) r.book r.outcome []
-  without_sheet bare r s =
-      subst (λ (xs : List Piece). Returned b (call e n) r.book r.outcome xs) (s.returned.pieces ∙ no_pieces (view b) e n bare) s.returned
+  pub without_sheet : is_discharge e ≡ false → (after : Book) (r : Discharged) → Stepped b e n after r → Returned b (call e n) after r.outcome []
+  without_sheet bare after r s =
+      subst (λ (xs : List Piece). Returned b (call e n) after r.outcome xs) (s.returned.pieces ∙ no_pieces (view b) e n bare) s.returned

@@ -1,30 +1,26 @@
 -- What a book as one value stands for, what holds of every book that the calls hand out, and what a call returns.
 use Rattle.std.specs.Prelude.{◌≡◌, ◌≢◌, List}
 use Rattle.plain.specs.declared.Piece.{Piece}
-use Rattle.plain.specs.declared.Outcome.{Outcome}
+use Rattle.laws.specs.Answers.{Outcome}
 use Rattle.plain.specs.Book as plain
 use Rattle.plain.specs.Calls.{Call}
 use Rattle.plain.specs.Refusals.{refusal}
 use Rattle.plain.specs.Histories.{next, pieces, quantity}
 use Rattle.machine.specs.declared.Core.{Core}
-use Rattle.ledger.specs.Posts.{ledger_of}
-use Rattle.machine.specs.View.{Numbers, numbers, book_of, Held}
-pub use Rattle.kept.specs.View.{answer, number_of, quantity_of}
+use Rattle.machine.specs.declared.Numbers.{Numbers}
+use Rattle.machine.specs.View.{book_of, Held}
+pub use Rattle.laws.specs.Answers.{answer, number_in, quantity_of}
 use Rattle.book.specs.declared.Book.{Book}
 
--- the numbers of its tables
+-- what is lent beside its core
 abbrev pub numbers_in : Book → Numbers
-numbers_in b = numbers b.rows b.trades b.awards b.counts b.starts b.words (ledger_of b.credits b.debits)
-
--- the same tables with another core
-abbrev pub with_core : Book → Core → Book
-with_core b core = record { core = core; rows = b.rows; trades = b.trades; awards = b.awards; counts = b.counts; starts = b.starts; words = b.words; credits = b.credits; debits = b.debits }
+numbers_in b = b.lent
 
 -- the plain book that it stands for
 unfoldable pub view : Book → plain.Book
 view b = book_of b.core (numbers_in b)
 
--- what holds of every book that is handed out, but by an opening that is refused; the fields are private, so there is no other
+-- what holds of every book that is handed out; the fields are private, so there is no other
 pub record Valid (b : Book) : Type 0 where
   pub held : Held b.core (numbers_in b)
 

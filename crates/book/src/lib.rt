@@ -1,354 +1,230 @@
-// The fails book as one value: a core with its tables of numbers, whose fields only this crate can change. `step` lends local copies of the
-// tables to the event's call in place (`calls`) and puts them back, and each call is `step` of its event.
+// The fails book as one value: a core with what is lent beside it, whose fields only this crate can change. `step` lends them to the event's call in place
+// (`calls`), and each call is `step` of its event.
 #![tactic(auto)]
 
-ghost use Rattle.std.specs.Prelude.{◌≡◌, [], false, length};
+ghost use Rattle.std.specs.Prelude.{◌≡◌, [], false, length, Err};
 ghost use Rattle.events.specs.declared.Event.TheVariants as event;
-ghost use Rattle.plain.specs.declared.Outcome.TheVariants as outcome;
+ghost use Rattle.laws.specs.declared.Refusal.TheVariants.{SmallSheet};
 ghost use Rattle.plain.specs.Calls.{call, is_discharge};
 ghost use Rattle.plain.specs.Sound.{Places};
-ghost use Rattle.tables.specs.Lent.{piece_table};
-ghost use Rattle.ledger.specs.Posts.{ledger_of};
-ghost use Rattle.machine.specs.View.{numbers, book_of, Held};
+ghost use Rattle.machine.specs.View.{book_of, Held};
 ghost use Rattle.reading.specs.Reading.{position_answer, award_answer, price_answer, balance_answer};
-ghost use Rattle.book.specs.View.{with_core, view, Valid, Returned};
+ghost use Rattle.book.specs.View.{view, Valid, Returned};
 ghost use Rattle.book.specs.Opening.{OpenedOn};
 ghost use Rattle.book.specs.Stepping.{WithoutPieces, Stepped};
 
-use calls::{AwardAnswer, BalanceAnswer, Core, PositionAnswer, PriceAnswer};
+use calls::{Core, Numbers};
 use events::{Attempt, Cash, Confirm, Delivery, Event, Offer, PairOff, Price, Trade};
-use laws::{
-    ACCOUNTS, AWARD_CELLS, BusinessDay, COUNT_CELLS, PLACES, POSITION_CELLS, SECURITIES,
-    SHEET_CELLS, TRADE_CELLS,
-};
-use plain::{Ledger, Outcome};
-use refusals::SMALL_SHEET;
+use laws::{BusinessDay, PLACES, Refusal};
+use plain::{Award, Latest, Ledger, Position};
+use rules::Amount;
 use tables::Pieces;
 
 #[derive(Drop)]
 pub struct Book {
     core: Core,
-    rows: [u32; POSITION_CELLS],
-    trades: [u32; TRADE_CELLS],
-    awards: [u32; AWARD_CELLS],
-    counts: [u32; COUNT_CELLS],
-    starts: [usize; SECURITIES],
-    words: [u64; SECURITIES],
-    credits: [u64; ACCOUNTS],
-    debits: [u64; ACCOUNTS],
+    lent: Numbers,
 }
 
-// What a call without pieces answers: the book after it, and its quantity or refusal.
-#[derive(Drop)]
-pub struct Answered {
-    pub book: Book,
-    pub outcome: Outcome,
-}
-
-// What a discharge answers besides: its pieces.
+// What a discharge answers: its quantity or why it is turned down, and its pieces.
 #[derive(Drop)]
 pub struct Discharged {
-    pub book: Book,
-    pub outcome: Outcome,
+    pub outcome: Result<u32, Refusal>,
     pub pieces: Pieces,
-}
-
-// What opening answers: a refusal number, or 0, and the book of the register that was read.
-#[derive(Drop)]
-pub struct Opened {
-    pub number: u8,
-    pub book: Book,
-}
-
-// One value of a core and the tables that were lent with it.
-pub fn made_of(
-    core: Core,
-    rows: [u32; POSITION_CELLS],
-    trades: [u32; TRADE_CELLS],
-    awards: [u32; AWARD_CELLS],
-    counts: [u32; COUNT_CELLS],
-    starts: [usize; SECURITIES],
-    words: [u64; SECURITIES],
-    credits: [u64; ACCOUNTS],
-    debits: [u64; ACCOUNTS],
-) -> Book
-    requires { Held core (numbers rows trades awards counts starts words (ledger_of credits debits)) }
-    ensures { (result ≡ record { core = core; rows = rows; trades = trades; awards = awards; counts = counts; starts = starts; words = words; credits = credits; debits = debits }) × (Valid result) × (view result ≡ book_of core (numbers rows trades awards counts starts words (ledger_of credits debits))) }
-{
-    Book {
-        core,
-        rows,
-        trades,
-        awards,
-        counts,
-        starts,
-        words,
-        credits,
-        debits,
-    }
-}
-
-pub fn open_book(bytes: &[u8]) -> Opened
-    ensures { OpenedOn bytes.now result }
-{
-    let opened = calls::open_core(bytes);
-    let core = opened.core;
-    let rows = calls::blank_rows();
-    let trades = calls::blank_trades();
-    let awards = calls::blank_awards();
-    let counts = calls::no_counts();
-    let starts = calls::no_starts();
-    let words = calls::no_words();
-    let credits = calls::no_cents();
-    let debits = calls::no_cents();
-    let book = Book {
-        core,
-        rows,
-        trades,
-        awards,
-        counts,
-        starts,
-        words,
-        credits,
-        debits,
-    };
-    Opened {
-        number: opened.number,
-        book,
-    }
-}
-
-pub fn day(book: Book) -> BusinessDay
-    requires { Valid book }
-    ensures { result.0 ≡ (view book).day }
-{
-    calls::day(book.core)
-}
-
-pub fn position_count(book: Book) -> usize
-    requires { Valid book }
-    ensures { result ≡ length (view book).positions }
-{
-    calls::position_count(book.core)
-}
-
-pub fn position(book: Book, number: u16) -> PositionAnswer
-    requires { Valid book }
-    ensures { result ≡ position_answer (view book) number }
-{
-    let rows = book.rows;
-    calls::position(book.core, &rows, number)
-}
-
-pub fn award_at(book: Book, number: u16) -> AwardAnswer
-    requires { Valid book }
-    ensures { result ≡ award_answer (view book) number }
-{
-    let awards = book.awards;
-    calls::award_at(book.core, &awards, number)
-}
-
-// The latest price of a security, of any age, and the day on which it was given.
-pub fn latest_price(book: Book, security: u16) -> PriceAnswer
-    requires { Valid book }
-    ensures { result ≡ price_answer (view book) security }
-{
-    calls::latest_price(book.core, security)
-}
-
-pub fn balance(book: Book, account: u8) -> BalanceAnswer
-    requires { Valid book }
-    ensures { result ≡ balance_answer (view book) account }
-{
-    let credits = book.credits;
-    let debits = book.debits;
-    calls::balance(&credits, &debits, account)
-}
-
-// All accounts at once.
-pub fn accounts(book: Book) -> Ledger
-    requires { Valid book }
-    ensures { (result ≡ (view book).ledger) × (Places result) }
-{
-    let credits = book.credits;
-    let debits = book.debits;
-    Ledger { credits, debits }
 }
 
 // Whether the event is a discharge, whose call has a sheet.
 fn is_discharge(e: Event) -> bool
     ensures { result ≡ is_discharge e }
 {
-    match e {
-        Event::Trade(_) => false,
-        Event::Price(_) => false,
-        Event::Delivery(_) => true,
-        Event::Attempt(_) => false,
-        Event::Offer(_) => false,
-        Event::Award(_) => false,
-        Event::Confirm(_) => true,
-        Event::Cash(_) => true,
-        Event::Close => false,
-        Event::PairOff(_) => true,
-    }
+    matches!(
+        e,
+        Event::Delivery(_) | Event::Confirm(_) | Event::Cash(_) | Event::PairOff(_)
+    )
 }
 
 // A sheet that is too small turns a discharge down before anything else.
-fn small_sheet(book: Book) -> Discharged
-    ensures { WithoutPieces (record { book = book; outcome = outcome.Refused 8 }) result }
+fn small_sheet() -> Discharged
+    ensures { WithoutPieces (Err SmallSheet) result }
 {
-    let outcome = Outcome::Refused(SMALL_SHEET);
-    let items = pieces::blank_pieces();
-    let pieces = Pieces { items, count: 0 };
     Discharged {
-        book,
-        outcome,
-        pieces,
+        outcome: Err(Refusal::SmallSheet),
+        pieces: Pieces {
+            items: pieces::blank_pieces(),
+            count: 0,
+        },
     }
 }
 
-// A book whose tables were lent gets the core that the call returned, and the first pieces of the sheet are handed out.
-fn handed_out(book: Book, answered: calls::Answered, sheet: &[u64; SHEET_CELLS]) -> Discharged
-    ensures { result ≡ record { book = with_core book answered.core; outcome = answered.outcome; pieces = piece_table sheet.now answered.pieces } }
-{
-    let items = pieces::pieces_of(sheet);
-    let count = answered.pieces;
-    let pieces = Pieces { items, count };
-    let core = answered.core;
-    let outcome = answered.outcome;
-    let mut after = book;
-    after.core = core;
-    Discharged {
-        book: after,
-        outcome,
-        pieces,
+impl Book {
+    // One value of a core and what was lent with it.
+    pub fn made_of(core: Core, lent: Numbers) -> Book
+        requires { Held core lent }
+        ensures made { result ≡ record { core = core; lent = lent } }
+        ensures valid { Valid result }
+        ensures view { view result ≡ book_of core lent }
+    {
+        Book { core, lent }
     }
-}
 
-// One event, by the call of its kind: the only function that lends the fields of a book to a call.
-pub fn step(book: Book, sheet: usize, e: Event) -> Discharged
-    requires { Valid book }
-    ensures { Stepped book e sheet result }
-{
-    if is_discharge(e) {
-        if sheet < PLACES {
-            return small_sheet(book);
+    // The new book on a register's bytes.
+    pub fn new(bytes: &[u8]) -> Result<Book, Refusal>
+        ensures { OpenedOn bytes.now result }
+    {
+        let core = calls::open_core(bytes)?;
+        Ok(Book {
+            core,
+            lent: calls::new_numbers(),
+        })
+    }
+
+    pub fn day(&self) -> BusinessDay
+        requires { Valid self.now }
+        ensures { result.0 ≡ (view self.now).day }
+    {
+        calls::day(self.core)
+    }
+
+    pub fn position_count(&self) -> usize
+        requires { Valid self.now }
+        ensures { result ≡ length (view self.now).positions }
+    {
+        calls::position_count(self.core)
+    }
+
+    pub fn position(&self, number: u16) -> Result<Position, Refusal>
+        requires { Valid self.now }
+        ensures { result ≡ position_answer (view self.now) number }
+    {
+        calls::position(self.core, &self.lent.rows, number)
+    }
+
+    pub fn award_at(&self, number: u16) -> Result<Award, Refusal>
+        requires { Valid self.now }
+        ensures { result ≡ award_answer (view self.now) number }
+    {
+        calls::award_at(self.core, &self.lent.awards, number)
+    }
+
+    // The latest price of a security, of any age, and the day on which it was given.
+    pub fn latest_price(&self, security: u16) -> Result<Option<Latest>, Refusal>
+        requires { Valid self.now }
+        ensures { result ≡ price_answer (view self.now) security }
+    {
+        calls::latest_price(self.core, security)
+    }
+
+    pub fn balance(&self, account: u8) -> Result<Amount, Refusal>
+        requires { Valid self.now }
+        ensures { result ≡ balance_answer (view self.now) account }
+    {
+        calls::balance(&self.lent.ledger, account)
+    }
+
+    // All accounts at once.
+    pub fn accounts(&self) -> Ledger
+        requires { Valid self.now }
+        ensures { (result ≡ (view self.now).ledger) × (Places result) }
+    {
+        self.lent.ledger
+    }
+
+    // One event, by the call of its kind: the only function that lends the fields of a book to a call.
+    pub fn step(&mut self, sheet: usize, e: Event) -> Discharged
+        requires { Valid self.old }
+        ensures { Stepped self.old e sheet self.new result }
+    {
+        if sheet < PLACES && is_discharge(e) {
+            return small_sheet();
+        }
+        let mut numbers = pieces::blank_numbers();
+        let answered = calls::step(self.core, &mut self.lent, &mut numbers, e);
+        self.core = answered.core;
+        Discharged {
+            outcome: answered.outcome,
+            pieces: Pieces {
+                items: pieces::pieces_of(&numbers),
+                count: answered.pieces,
+            },
         }
     }
-    let mut rows = book.rows;
-    let mut trades = book.trades;
-    let mut awards = book.awards;
-    let mut counts = book.counts;
-    let mut starts = book.starts;
-    let mut words = book.words;
-    let mut credits = book.credits;
-    let mut debits = book.debits;
-    let mut lent = pieces::blank_numbers();
-    let answered = calls::step(
-        book.core,
-        &mut rows,
-        &mut trades,
-        &mut awards,
-        &mut counts,
-        &mut starts,
-        &mut words,
-        &mut credits,
-        &mut debits,
-        &mut lent,
-        e,
-    );
-    let mut after = book;
-    after.rows = rows;
-    after.trades = trades;
-    after.awards = awards;
-    after.counts = counts;
-    after.starts = starts;
-    after.words = words;
-    after.credits = credits;
-    after.debits = debits;
-    handed_out(after, answered, &lent)
-}
 
-pub fn delivery(book: Book, sheet: usize, d: Delivery) -> Discharged
-    requires { Valid book }
-    ensures { Stepped book (event.Delivery d) sheet result }
-{
-    step(book, sheet, Event::Delivery(d))
-}
-
-pub fn confirm(book: Book, sheet: usize, c: Confirm) -> Discharged
-    requires { Valid book }
-    ensures { Stepped book (event.Confirm c) sheet result }
-{
-    step(book, sheet, Event::Confirm(c))
-}
-
-pub fn cash(book: Book, sheet: usize, c: Cash) -> Discharged
-    requires { Valid book }
-    ensures { Stepped book (event.Cash c) sheet result }
-{
-    step(book, sheet, Event::Cash(c))
-}
-
-pub fn pair_off(book: Book, sheet: usize, x: PairOff) -> Discharged
-    requires { Valid book }
-    ensures { Stepped book (event.PairOff x) sheet result }
-{
-    step(book, sheet, Event::PairOff(x))
-}
-
-// An event that is no discharge: its call has no sheet, and no piece is handed out.
-fn without_sheet(book: Book, e: Event) -> Answered
-    requires { (Valid book) × (is_discharge e ≡ false) }
-    ensures { Returned book (call e 0) result.book result.outcome [] }
-{
-    let done = step(book, 0, e);
-    let after = done.book;
-    let outcome = done.outcome;
-    Answered {
-        book: after,
-        outcome,
+    pub fn delivery(&mut self, sheet: usize, d: Delivery) -> Discharged
+        requires { Valid self.old }
+        ensures { Stepped self.old (event.Delivery d) sheet self.new result }
+    {
+        self.step(sheet, Event::Delivery(d))
     }
-}
 
-pub fn trade(book: Book, t: Trade) -> Answered
-    requires { Valid book }
-    ensures { Returned book (call (event.Trade t) 0) result.book result.outcome [] }
-{
-    without_sheet(book, Event::Trade(t))
-}
+    pub fn confirm(&mut self, sheet: usize, c: Confirm) -> Discharged
+        requires { Valid self.old }
+        ensures { Stepped self.old (event.Confirm c) sheet self.new result }
+    {
+        self.step(sheet, Event::Confirm(c))
+    }
 
-pub fn price(book: Book, p: Price) -> Answered
-    requires { Valid book }
-    ensures { Returned book (call (event.Price p) 0) result.book result.outcome [] }
-{
-    without_sheet(book, Event::Price(p))
-}
+    pub fn cash(&mut self, sheet: usize, c: Cash) -> Discharged
+        requires { Valid self.old }
+        ensures { Stepped self.old (event.Cash c) sheet self.new result }
+    {
+        self.step(sheet, Event::Cash(c))
+    }
 
-pub fn attempt(book: Book, a: Attempt) -> Answered
-    requires { Valid book }
-    ensures { Returned book (call (event.Attempt a) 0) result.book result.outcome [] }
-{
-    without_sheet(book, Event::Attempt(a))
-}
+    pub fn pair_off(&mut self, sheet: usize, x: PairOff) -> Discharged
+        requires { Valid self.old }
+        ensures { Stepped self.old (event.PairOff x) sheet self.new result }
+    {
+        self.step(sheet, Event::PairOff(x))
+    }
 
-pub fn offer(book: Book, o: Offer) -> Answered
-    requires { Valid book }
-    ensures { Returned book (call (event.Offer o) 0) result.book result.outcome [] }
-{
-    without_sheet(book, Event::Offer(o))
-}
+    // An event that is no discharge: its call has no sheet, and no piece is handed out.
+    fn without_sheet(&mut self, e: Event) -> Result<u32, Refusal>
+        requires valid { Valid self.old }
+        requires bare { is_discharge e ≡ false }
+        ensures { Returned self.old (call e 0) self.new result [] }
+    {
+        self.step(0, e).outcome
+    }
 
-pub fn award(book: Book, a: events::Award) -> Answered
-    requires { Valid book }
-    ensures { Returned book (call (event.Award a) 0) result.book result.outcome [] }
-{
-    without_sheet(book, Event::Award(a))
-}
+    pub fn trade(&mut self, t: Trade) -> Result<u32, Refusal>
+        requires { Valid self.old }
+        ensures { Returned self.old (call (event.Trade t) 0) self.new result [] }
+    {
+        self.without_sheet(Event::Trade(t))
+    }
 
-pub fn close(book: Book) -> Answered
-    requires { Valid book }
-    ensures { Returned book (call event.Close 0) result.book result.outcome [] }
-{
-    without_sheet(book, Event::Close)
+    pub fn price(&mut self, p: Price) -> Result<u32, Refusal>
+        requires { Valid self.old }
+        ensures { Returned self.old (call (event.Price p) 0) self.new result [] }
+    {
+        self.without_sheet(Event::Price(p))
+    }
+
+    pub fn attempt(&mut self, a: Attempt) -> Result<u32, Refusal>
+        requires { Valid self.old }
+        ensures { Returned self.old (call (event.Attempt a) 0) self.new result [] }
+    {
+        self.without_sheet(Event::Attempt(a))
+    }
+
+    pub fn offer(&mut self, o: Offer) -> Result<u32, Refusal>
+        requires { Valid self.old }
+        ensures { Returned self.old (call (event.Offer o) 0) self.new result [] }
+    {
+        self.without_sheet(Event::Offer(o))
+    }
+
+    pub fn award(&mut self, a: events::Award) -> Result<u32, Refusal>
+        requires { Valid self.old }
+        ensures { Returned self.old (call (event.Award a) 0) self.new result [] }
+    {
+        self.without_sheet(Event::Award(a))
+    }
+
+    pub fn close(&mut self) -> Result<u32, Refusal>
+        requires { Valid self.old }
+        ensures { Returned self.old (call event.Close 0) self.new result [] }
+    {
+        self.without_sheet(Event::Close)
+    }
 }

@@ -1,5 +1,5 @@
 -- The answers, case by case: what each test makes of them, and what an accepted question says.
-use Rattle.std.specs.Prelude.{ℕ, zero, suc, ◌-◌, ◌≤◌, ◌<◌, ◌≡◌, List, [], ◌∷◌, ◌≢◌, false}
+use Rattle.std.specs.Prelude.{ℕ, zero, suc, ◌-◌, ◌≤◌, ◌<◌, ◌≡◌, List, [], ◌∷◌, ◌≢◌, Ok, Err, false}
 use native.Mathlib.Omega.{arith}
 use Rattle.std.proofs.Math.Nat.{lt_of_not-le}
 use Rattle.std.proofs.Math.Path.{refl, ap}
@@ -9,31 +9,22 @@ use borrow.Author.Tests.{lt-ltb, le-ltb, le-leb, lt-leb, ltb-false, not-false}
 use Rattle.std.proofs.Math.ListN.{length, get_or-eq_default}
 use Rattle.laws.specs.Asked.{within, within_low, within_high}
 use Rattle.laws.specs.Refusals.{Reason, first, here, past, first_neither, none_applies}
+use Rattle.laws.specs.Answers.{answer, number_some, answer_refused}
+use Rattle.laws.specs.Answers as reason
+use Rattle.laws.specs.declared.Refusal.{Refusal}
+use Rattle.laws.specs.declared.Refusal.TheVariants.{InvalidDate, NoBusinessDay, After2099}
+use Rattle.laws.specs.declared.BusinessDay.{BusinessDay}
 use Rattle.laws.specs.Ranges.{past_default}
 use Rattle.calendar.specs.Dates.{valid, day_number, date_of, all_days}
 use Rattle.calendar.specs.BusinessDays.{holidays, business, business_days, business_day, business_number}
-use Rattle.calendar.specs.Answers.{invalid, holiday_reasons, number_reasons, date_reasons, day_to_date_refusal, date_to_day_refusal, date_answer, day_answer, day_value, day_to_date, date_to_day}
+use Rattle.calendar.specs.Answers.{invalid, holiday_reasons, number_reasons, date_reasons, day_to_date_refusal, date_to_day_refusal, day_numbered, day_to_date, date_to_day}
 use Rattle.calendar.specs.Lengths.{day_below}
 use Rattle.calendar.specs.Reasons.{holidays_decide, rest_decides}
-use Rattle.calendar.specs.declared.DateAnswer.TheVariants as date
-use Rattle.calendar.specs.declared.DayAnswer.TheVariants as day
 
--- an answer by its refusal
-date_refused : (k v : ℕ) → k ≢ 0 → date.Refused k ≡ date_answer k v
-date_refused zero v n = absurd (n refl)
-date_refused (suc k) v n = refl
-
-date_given : (k v d : ℕ) → date_answer k v ≡ date.Date d → (k ≡ 0) × (v ≡ d)
-date_given zero v d e = (refl, cc)
-date_given (suc k) v d e = absurd (let z : ◌≡◌ {A = ℕ} 0 1 = cc in omega arith)
-
-day_refused : (k v : ℕ) → k ≢ 0 → day.Refused k ≡ day_answer k v
-day_refused zero v n = absurd (n refl)
-day_refused (suc k) v n = refl
-
-day_given : (k v n : ℕ) → day_answer k v ≡ day.Day (record { 0 = n }) → (k ≡ 0) × (v ≡ n)
-day_given zero v n e = (refl, ap day_value e)
-day_given (suc k) v n e = absurd (let z : ◌≡◌ {A = ℕ} 0 1 = cc in omega arith)
+-- an answer that is a value was not turned down
+given : {T : Type 0} (k : ℕ) (v d : T) → answer k v ≡ Ok d → (k ≡ 0) × (v ≡ d)
+given zero v d e = (refl, cc)
+given (suc k) v d e = absurd (let z : ◌≡◌ {A = ℕ} 0 1 = cc in omega arith)
 
 -- the n-th business day is there just where there are n of them
 module _ (hs : List ℕ) (opening number : ℕ) where
@@ -59,48 +50,48 @@ module _ (opening : ℕ) (bytes : List ℕ) (number : ℕ) where
   abbrev of_number : List Reason
   of_number = number_reasons opening (holidays bytes) number
 
-  refused : (k : ℕ) → k ≡ day_to_date_refusal opening bytes number → k ≢ 0 → date.Refused k ≡ day_to_date opening bytes number
+  refused : (r : Refusal) → reason.number r ≡ day_to_date_refusal opening bytes number → Err r ≡ day_to_date opening bytes number
   unfolding day_to_date
-  refused k e n = date_refused k date_sought n ∙ ap (λ (r : ℕ). date_answer r date_sought) e
+  refused r e = answer_refused (day_to_date_refusal opening bytes number) date_sought r e
 
-  pub opening_wrong : valid opening ≡ false → date.Refused 27 ≡ day_to_date opening bytes number
+  pub opening_wrong : valid opening ≡ false → Err InvalidDate ≡ day_to_date opening bytes number
   unfolding day_to_date_refusal
-  opening_wrong e = refused 27 (here 27 _ (ap not e)) (λ z. omega arith)
+  opening_wrong e = refused InvalidDate (here 27 _ (ap not e))
 
   module _ (v : valid opening ≡ true) where
-    pub holidays_wrong : (r : ℕ) → r ≡ first (holiday_reasons bytes) → r ≢ 0 → date.Refused r ≡ day_to_date opening bytes number
+    pub holidays_wrong : (r : Refusal) → reason.number r ≡ first (holiday_reasons bytes) → Err r ≡ day_to_date opening bytes number
     unfolding day_to_date_refusal
-    holidays_wrong r e n = refused r (past 27 (ap not v) (holidays_decide bytes r of_number e n)) n
+    holidays_wrong r e = refused r (past 27 (ap not v) (holidays_decide bytes (reason.number r) of_number e (number_some r)))
 
     module _ (h : first (holiday_reasons bytes) ≡ 0) where
       by_number : first of_number ≡ day_to_date_refusal opening bytes number
       unfolding day_to_date_refusal
       by_number = past 27 (ap not v) (rest_decides bytes of_number h)
 
-      pub number_low : number < 1 → date.Refused 29 ≡ day_to_date opening bytes number
+      pub number_low : number < 1 → Err NoBusinessDay ≡ day_to_date opening bytes number
       unfolding within
-      number_low l = let e : 29 ≡ first of_number = rw (lt-leb 1 number l) in refused 29 (e ∙ by_number) (λ z. omega arith)
+      number_low l = let e : 29 ≡ first of_number = rw (lt-leb 1 number l) in refused NoBusinessDay (e ∙ by_number)
 
-      pub number_high : 9999 < number → date.Refused 29 ≡ day_to_date opening bytes number
+      pub number_high : 9999 < number → Err NoBusinessDay ≡ day_to_date opening bytes number
       unfolding within
       number_high l =
           let low : 1 ≤ number = omega arith in
           let e : 29 ≡ first of_number = rw (le-leb 1 number low, lt-leb number 9999 l) in
-          refused 29 (e ∙ by_number) (λ z. omega arith)
+          refused NoBusinessDay (e ∙ by_number)
 
       module _ (low : 1 ≤ number) (high : number ≤ 9999) where
-        pub day_after : business_day (holidays bytes) (day_number opening) number ≡ all_days → date.Refused 30 ≡ day_to_date opening bytes number
+        pub day_after : business_day (holidays bytes) (day_number opening) number ≡ all_days → Err After2099 ≡ day_to_date opening bytes number
         unfolding within
         day_after n =
             let l = none_there (holidays bytes) (day_number opening) number (omega (arith, day_below opening v)) low n in
             let e : 30 ≡ first of_number = rw (le-leb 1 number low, le-leb number 9999 high, lt-ltb days_there number l) in
-            refused 30 (e ∙ by_number) (λ z. omega arith)
+            refused After2099 (e ∙ by_number)
 
-        pub date_is : number ≤ days_there → date.Date date_sought ≡ day_to_date opening bytes number
+        pub date_is : number ≤ days_there → Ok date_sought ≡ day_to_date opening bytes number
         unfolding day_to_date within
         date_is l =
             let e : 0 ≡ first of_number = rw (le-leb 1 number low, le-leb number 9999 high, le-ltb days_there number l) in
-            ap (λ (r : ℕ). date_answer r date_sought) (e ∙ by_number)
+            ap (λ (r : ℕ). answer r date_sought) (e ∙ by_number)
 
   -- what an accepted number says
   pub record Dated (d : ℕ) : Type 0 where
@@ -111,10 +102,10 @@ module _ (opening : ℕ) (bytes : List ℕ) (number : ℕ) where
     pub there : number ≤ days_there
     pub value : date_sought ≡ d
 
-  pub dated : (d : ℕ) → day_to_date opening bytes number ≡ date.Date d → Dated d
+  pub dated : (d : ℕ) → day_to_date opening bytes number ≡ Ok d → Dated d
   unfolding day_to_date day_to_date_refusal
   dated d e =
-      let g = date_given (day_to_date_refusal opening bytes number) date_sought d e in
+      let g = given (day_to_date_refusal opening bytes number) date_sought d e in
       let before = first_neither (invalid opening ∷ holiday_reasons bytes) of_number refl g.0 in
       let start = first_neither (invalid opening ∷ []) (holiday_reasons bytes) refl before.0 in
       let of_start = none_applies (invalid opening ∷ []) refl start.0 in
@@ -137,52 +128,52 @@ module _ (opening : ℕ) (bytes : List ℕ) (asked : ℕ) where
   abbrev of_date : List Reason
   of_date = date_reasons opening (holidays bytes) asked
 
-  turned_down : (k : ℕ) → k ≡ date_to_day_refusal opening bytes asked → k ≢ 0 → day.Refused k ≡ date_to_day opening bytes asked
+  turned_down : (r : Refusal) → reason.number r ≡ date_to_day_refusal opening bytes asked → Err r ≡ date_to_day opening bytes asked
   unfolding date_to_day
-  turned_down k e n = day_refused k number_sought n ∙ ap (λ (r : ℕ). day_answer r number_sought) e
+  turned_down r e = answer_refused (date_to_day_refusal opening bytes asked) (day_numbered number_sought) r e
 
-  pub start_wrong : valid opening ≡ false → day.Refused 27 ≡ date_to_day opening bytes asked
+  pub start_wrong : valid opening ≡ false → Err InvalidDate ≡ date_to_day opening bytes asked
   unfolding date_to_day_refusal
-  start_wrong e = turned_down 27 (here 27 _ (ap not e)) (λ z. omega arith)
+  start_wrong e = turned_down InvalidDate (here 27 _ (ap not e))
 
   module _ (v : valid opening ≡ true) where
-    pub asked_wrong : valid asked ≡ false → day.Refused 27 ≡ date_to_day opening bytes asked
+    pub asked_wrong : valid asked ≡ false → Err InvalidDate ≡ date_to_day opening bytes asked
     unfolding date_to_day_refusal
-    asked_wrong e = turned_down 27 (past 27 (ap not v) (here 27 _ (ap not e))) (λ z. omega arith)
+    asked_wrong e = turned_down InvalidDate (past 27 (ap not v) (here 27 _ (ap not e)))
 
     module _ (w : valid asked ≡ true) where
-      pub list_wrong : (r : ℕ) → r ≡ first (holiday_reasons bytes) → r ≢ 0 → day.Refused r ≡ date_to_day opening bytes asked
+      pub list_wrong : (r : Refusal) → reason.number r ≡ first (holiday_reasons bytes) → Err r ≡ date_to_day opening bytes asked
       unfolding date_to_day_refusal
-      list_wrong r e n =
-          turned_down r (past 27 (ap not v) (past 27 (ap not w) (holidays_decide bytes r of_date e n))) n
+      list_wrong r e =
+          turned_down r (past 27 (ap not v) (past 27 (ap not w) (holidays_decide bytes (reason.number r) of_date e (number_some r))))
 
       module _ (h : first (holiday_reasons bytes) ≡ 0) where
         by_date : first of_date ≡ date_to_day_refusal opening bytes asked
         unfolding date_to_day_refusal
         by_date = past 27 (ap not v) (past 27 (ap not w) (rest_decides bytes of_date h))
 
-        pub too_early : day_number asked < day_number opening → day.Refused 29 ≡ date_to_day opening bytes asked
+        pub too_early : day_number asked < day_number opening → Err NoBusinessDay ≡ date_to_day opening bytes asked
         too_early l =
             let e : 29 ≡ first of_date = rw (lt-ltb (day_number asked) (day_number opening) l) in
-            turned_down 29 (e ∙ by_date) (λ z. omega arith)
+            turned_down NoBusinessDay (e ∙ by_date)
 
         module _ (l : day_number opening ≤ day_number asked) where
-          pub no_business : business (holidays bytes) (day_number asked) ≡ false → day.Refused 29 ≡ date_to_day opening bytes asked
+          pub no_business : business (holidays bytes) (day_number asked) ≡ false → Err NoBusinessDay ≡ date_to_day opening bytes asked
           no_business b =
               let e : 29 ≡ first of_date = rw (le-ltb (day_number asked) (day_number opening) l, b) in
-              turned_down 29 (e ∙ by_date) (λ z. omega arith)
+              turned_down NoBusinessDay (e ∙ by_date)
 
           module _ (b : business (holidays bytes) (day_number asked) ≡ true) where
-            pub too_late : 9999 < number_sought → day.Refused 29 ≡ date_to_day opening bytes asked
+            pub too_late : 9999 < number_sought → Err NoBusinessDay ≡ date_to_day opening bytes asked
             too_late k =
                 let e : 29 ≡ first of_date = rw (le-ltb (day_number asked) (day_number opening) l, b, lt-ltb 9999 number_sought k) in
-                turned_down 29 (e ∙ by_date) (λ z. omega arith)
+                turned_down NoBusinessDay (e ∙ by_date)
 
-            pub day_is : number_sought ≤ 9999 → day.Day (record { 0 = number_sought }) ≡ date_to_day opening bytes asked
+            pub day_is : number_sought ≤ 9999 → Ok (day_numbered number_sought) ≡ date_to_day opening bytes asked
             unfolding date_to_day
             day_is k =
                 let e : 0 ≡ first of_date = rw (le-ltb (day_number asked) (day_number opening) l, b, le-ltb 9999 number_sought k) in
-                ap (λ (r : ℕ). day_answer r number_sought) (e ∙ by_date)
+                ap (λ (r : ℕ). answer r (day_numbered number_sought)) (e ∙ by_date)
 
   -- what an accepted date says
   pub record Numbered (n : ℕ) : Type 0 where
@@ -194,10 +185,10 @@ module _ (opening : ℕ) (bytes : List ℕ) (asked : ℕ) where
     pub to : number_sought ≤ 9999
     pub value : number_sought ≡ n
 
-  pub numbered : (n : ℕ) → date_to_day opening bytes asked ≡ day.Day (record { 0 = n }) → Numbered n
+  pub numbered : (n : ℕ) → date_to_day opening bytes asked ≡ Ok (day_numbered n) → Numbered n
   unfolding date_to_day date_to_day_refusal
   numbered n e =
-      let g = day_given (date_to_day_refusal opening bytes asked) number_sought n e in
+      let g = given (date_to_day_refusal opening bytes asked) (day_numbered number_sought) (day_numbered n) e in
       let before = first_neither (invalid opening ∷ invalid asked ∷ holiday_reasons bytes) of_date refl g.0 in
       let start = first_neither (invalid opening ∷ invalid asked ∷ []) (holiday_reasons bytes) refl before.0 in
       let of_dates = none_applies (invalid opening ∷ invalid asked ∷ []) refl start.0 in
@@ -209,5 +200,5 @@ module _ (opening : ℕ) (bytes : List ℕ) (asked : ℕ) where
         from = ltb-false (day_number asked) (day_number opening) of_date_lem.0;
         open_day = not-false (business (holidays bytes) (day_number asked)) of_date_lem.1.0;
         to = ltb-false 9999 number_sought of_date_lem.1.1.0;
-        value = g.1;
+        value = ap (λ (d : BusinessDay). d.0) g.1;
       }

@@ -1,5 +1,5 @@
 -- Dates worked out, by the definitions: value and value expected, a row each, and all rows hold.
-use Rattle.std.specs.Prelude.{ℕ, ◌≡◌, refl, List, [], ◌∷◌, true, eqb}
+use Rattle.std.specs.Prelude.{ℕ, ◌≡◌, refl, List, [], ◌∷◌, Ok, true, eqb}
 use Rattle.laws.specs.Lists.{every}
 use Rattle.laws.specs.Asked.{within}
 use Rattle.laws.specs.Words.{bytes32}
@@ -7,7 +7,6 @@ use Rattle.calendar.specs.Dates.{leap, month_length, year_length, valid, before_
 use Rattle.calendar.specs.BusinessDays.{holidays, above, ascending, weekday, business, business_number}
 use Rattle.calendar.specs.Answers.{day_refusal, day_value, day_to_date, date_to_day_refusal, date_to_day}
 use Rattle.calendar.specs.Theorems.{date_again}
-use Rattle.calendar.specs.declared.DateAnswer.TheVariants as date
 
 -- a row of numbers: `plain`'s worked table has rows of any type, and `calendar` stands below it
 pub record Row : Type 0 where
@@ -40,6 +39,6 @@ unfolding rows leap month_length year_length within valid before_year before_mon
 all_rows = refl
 
 -- "Opening 2000-01-01, no holidays: day 5 is 7 January, day 6 is 10 January."
-pub first_days : (day_to_date 20000101 [] 5 ≡ date.Date 20000107) × (day_to_date 20000101 [] 6 ≡ date.Date 20000110)
+pub first_days : (day_to_date 20000101 [] 5 ≡ Ok 20000107) × (day_to_date 20000101 [] 6 ≡ Ok 20000110)
 unfolding leap month_length year_length within valid before_year before_month day_number holidays above ascending business business_number date_to_day_refusal date_to_day
 first_days = (date_again 20000101 [] 20000107 5 refl, date_again 20000101 [] 20000110 6 refl)

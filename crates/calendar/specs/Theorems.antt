@@ -1,17 +1,16 @@
 -- What holds of the two answers together: each is the other's inverse, day 1 is the first business day at or after the opening, and day n + 1 is the next business day after day n.
-use Rattle.std.specs.Prelude.{ℕ, zero, suc, ◌+◌, ◌-◌, ◌≤◌, ◌<◌, ◌≡◌, refl, List, true, false}
+use Rattle.std.specs.Prelude.{ℕ, suc, ◌+◌, ◌-◌, ◌≤◌, ◌<◌, ◌≡◌, refl, List, ◌∷◌, ◌++◌, Ok, true, false}
 use Rattle.std.proofs.Common.{arith, lt_of_not-le, eq-or-lt_of_le, ◌∙◌, ⊎_elim}
 use Rattle.std.proofs.Math.Path.{ap, sym, subst}
 use Rattle.std.proofs.Math.ListN.{get_or}
+use Rattle.laws.specs.Answers.{answer_number, first_listed}
 use Rattle.laws.specs.Ranges.{Listed, listed, found, found_below, count, next_above, none_between, none_before}
 use Rattle.calendar.specs.Dates.{valid, day_number, date_of, all_days}
 use Rattle.calendar.specs.BusinessDays.{holidays, business, business_days, business_day, business_number}
-use Rattle.calendar.specs.Answers.{date_refusal, date_value, day_refusal, day_value, date_answer, day_answer, day_to_date_refusal, date_to_day_refusal, day_to_date, date_to_day}
+use Rattle.calendar.specs.Answers.{date_refusal, date_value, day_refusal, day_value, day_numbered, invalid, holiday_reasons, number_reasons, date_reasons, day_to_date_refusal, date_to_day_refusal, day_to_date, date_to_day}
 use Rattle.calendar.specs.Lengths.{day_below}
 use Rattle.calendar.specs.Inverse.{number_of_date, valid_date, date_of_number, later_day}
 use Rattle.calendar.specs.Decided.{Dated, dated, date_is, numbered, day_is}
-use Rattle.calendar.specs.declared.DateAnswer.TheVariants as date
-use Rattle.calendar.specs.declared.DayAnswer.TheVariants as day
 
 module _ (opening : ℕ) (bytes : List ℕ) where
   -- among the business days from the opening day on, x is the one at place i, counted from 0
@@ -36,17 +35,17 @@ module _ (opening : ℕ) (bytes : List ℕ) where
       }
 
   -- day to date, then date to day
-  pub number_again : (n d : ℕ) → day_to_date opening bytes n ≡ date.Date d → date_to_day opening bytes d ≡ day.Day (record { 0 = n })
+  pub number_again : (n d : ℕ) → day_to_date opening bytes n ≡ Ok d → date_to_day opening bytes d ≡ Ok (day_numbered n)
   unfolding business_number
   number_again n d e =
       let a = dated opening bytes n d e in
       let p = at n d a in
       let m : business_number (holidays bytes) (day_number opening) (day_number d) ≡ n = omega (arith, p.place.place, a.from) in
       sym (day_is opening bytes d a.opened p.right a.listed p.place.from p.place.passes (omega (arith, m, a.to)))
-      ∙ ap (λ (k : ℕ). day.Day (record { 0 = k })) m
+      ∙ ap (λ (k : ℕ). Ok (day_numbered k)) m
 
   -- date to day, then day to date
-  pub date_again : (d n : ℕ) → date_to_day opening bytes d ≡ day.Day (record { 0 = n }) → day_to_date opening bytes n ≡ date.Date d
+  pub date_again : (d n : ℕ) → date_to_day opening bytes d ≡ Ok (day_numbered n) → day_to_date opening bytes n ≡ Ok d
   unfolding business_number business_day business_days
   date_again d n e =
       let a = numbered opening bytes d n e in
@@ -58,7 +57,7 @@ module _ (opening : ℕ) (bytes : List ℕ) where
       ap (λ (k : ℕ). get_or (business_days (holidays bytes) o) k all_days) m ∙ found b o (all_days - o) (day_number d) all_days a.open_day a.from u
       in
       sym (date_is opening bytes n a.opened a.listed (omega (arith, a.value)) (omega (arith, a.value, a.to)) (omega (arith, m, a.value, found_below b o (all_days - o) (day_number d) a.open_day a.from u)))
-      ∙ ap date.Date (ap date_of x ∙ date_of_number d a.valid_date)
+      ∙ ap Ok (ap date_of x ∙ date_of_number d a.valid_date)
 
   -- of two valid dates the one with the earlier day is the earlier date
   earlier : (d e : ℕ) → valid d ≡ true → valid e ≡ true → day_number d < day_number e → d < e
@@ -80,7 +79,7 @@ module _ (opening : ℕ) (bytes : List ℕ) where
     pub open_day : business (holidays bytes) (day_number e) ≡ true
     pub none : (x : ℕ) → valid x ≡ true → d < x → x < e → business (holidays bytes) (day_number x) ≡ false
 
-  pub next_day : (n d e : ℕ) → day_to_date opening bytes n ≡ date.Date d → day_to_date opening bytes (n + 1) ≡ date.Date e → Next d e
+  pub next_day : (n d e : ℕ) → day_to_date opening bytes n ≡ Ok d → day_to_date opening bytes (n + 1) ≡ Ok e → Next d e
   next_day n d e f g =
       let a = dated opening bytes n d f in
       let p = at n d a in
@@ -100,7 +99,7 @@ module _ (opening : ℕ) (bytes : List ℕ) where
     pub open_day : business (holidays bytes) (day_number d) ≡ true
     pub none : (x : ℕ) → valid x ≡ true → opening ≤ x → x < d → business (holidays bytes) (day_number x) ≡ false
 
-  pub first_day_lem : (d : ℕ) → day_to_date opening bytes 1 ≡ date.Date d → First d
+  pub first_day_lem : (d : ℕ) → day_to_date opening bytes 1 ≡ Ok d → First d
   first_day_lem d e =
       let p = at 1 d (dated opening bytes 1 d e) in
       let v = (dated opening bytes 1 d e).opened in
@@ -111,26 +110,22 @@ module _ (opening : ℕ) (bytes : List ℕ) where
       }
 
 -- an answer's number in the paper is the refusal, and its value the date or the number
-date_number : (k v : ℕ) → date_refusal (date_answer k v) ≡ k
-date_number zero v = refl
-date_number (suc k) v = refl
-
-day_number_lem : (k v : ℕ) → day_refusal (day_answer k v) ≡ k
-day_number_lem zero v = refl
-day_number_lem (suc k) v = refl
-
 module _ (opening : ℕ) (bytes : List ℕ) where
   pub date_refusal_lem : (n : ℕ) → date_refusal (day_to_date opening bytes n) ≡ day_to_date_refusal opening bytes n
-  unfolding day_to_date
-  date_refusal_lem n = date_number (day_to_date_refusal opening bytes n) _
+  unfolding day_to_date day_to_date_refusal
+  date_refusal_lem n =
+      answer_number (day_to_date_refusal opening bytes n) _
+      (first_listed (invalid opening ∷ (holiday_reasons bytes ++ number_reasons opening (holidays bytes) n)) refl)
 
   pub date_value_lem : (n : ℕ) → day_to_date_refusal opening bytes n ≡ 0 → date_value (day_to_date opening bytes n) ≡ date_of (business_day (holidays bytes) (day_number opening) n)
   unfolding day_to_date
   date_value_lem n e = rw e
 
   pub day_refusal_lem : (d : ℕ) → day_refusal (date_to_day opening bytes d) ≡ date_to_day_refusal opening bytes d
-  unfolding date_to_day
-  day_refusal_lem d = day_number_lem (date_to_day_refusal opening bytes d) _
+  unfolding date_to_day date_to_day_refusal
+  day_refusal_lem d =
+      answer_number (date_to_day_refusal opening bytes d) _
+      (first_listed (invalid opening ∷ invalid d ∷ (holiday_reasons bytes ++ date_reasons opening (holidays bytes) d)) refl)
 
   pub day_value_lem : (d : ℕ) → date_to_day_refusal opening bytes d ≡ 0 → day_value (date_to_day opening bytes d) ≡ business_number (holidays bytes) (day_number opening) (day_number d)
   unfolding date_to_day

@@ -14,7 +14,8 @@ use Rattle.kept.proofs.Fresh.{Unused, unused_view, unused_valid}
 use Rattle.machine.specs.declared.Core.{Core}
 use Rattle.tables.specs.Tables as table
 use Rattle.failing.proofs.Keeping.{counted_new, late_before_new}
-use Rattle.machine.specs.View.{Numbers, followed_in, kept_of, book_of, Started, Follows, Held, Blank}
+use Rattle.machine.specs.declared.Numbers.{Numbers}
+use Rattle.machine.specs.View.{followed_in, kept_of, book_of, Started, Follows, Held, Blank}
 
 zeros_at : (n i : ℕ) → get_or {A = ℕ} (replicate n 0) i 0 ≡ 0
 zeros_at zero i = refl

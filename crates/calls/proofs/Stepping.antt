@@ -10,16 +10,17 @@ use Rattle.laws.specs.Refusals.{accepted}
 use Rattle.events.specs.declared.Event.{Event}
 use Rattle.events.specs.declared.Event.TheVariants as event
 use Rattle.plain.specs.declared.Piece.{Piece}
-use Rattle.plain.specs.declared.Outcome.{Outcome}
+use Rattle.laws.specs.Answers.{Outcome, answer}
 use Rattle.plain.specs.Book as plain
 use Rattle.plain.specs.Calls.{call, is_discharge, hands_out, amount, done}
 use Rattle.plain.specs.Refusals.{reasons, refusal}
 use Rattle.plain.specs.Histories.{next, pieces, quantity}
 use Rattle.pieces.specs.Sheet.{sheet_with}
-use Rattle.kept.specs.View.{Kept, view, answer}
+use Rattle.kept.specs.View.{Kept, view}
 use Rattle.machine.specs.declared.Core.{Core}
 use Rattle.calls.specs.Stepping.{Stepped}
-use Rattle.machine.specs.View.{Numbers, kept_of, book_of, Returned, CalledBare, CalledOn}
+use Rattle.machine.specs.declared.Numbers.{Numbers}
+use Rattle.machine.specs.View.{kept_of, book_of, Returned, CalledBare, CalledOn}
 
 -- an event that is no discharge is refused alike whatever the sheet's length
 pub any_sheet : (b : plain.Book) (e : Event) (m n : ℕ) → is_discharge e ≡ false → refusal b (call e m) ≡ refusal b (call e n)

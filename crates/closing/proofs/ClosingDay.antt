@@ -1,8 +1,8 @@
 -- A close in place: the charges posted, the shorts that were due today made late, the day's trades netted into the lent table, awards and marks cleared.
+use Rattle.std.proofs.Common.{Err, Ok}
 use Prim.Native.Nat.{ℕ, ◌+◌, ◌≤◌, ◌<◌}
 use native.Mathlib.Omega.{arith}
 use mathlib.Core.Path.{◌≡◌, refl, ap, sym, ◌∙◌, subst}
-use mathlib.Core.Logic.{◌≢◌}
 use mathlib.Core.List.{List, ◌++◌}
 use lib.ListN.{length, get_or, take, length-append, length-take, get_or-append}
 use lib.Seq.{get_or-take, length-take-le}
@@ -12,19 +12,20 @@ use Rattle.laws.specs.Alls.{all_of}
 use Rattle.events.specs.declared.Event.TheVariants as event
 use Rattle.plain.specs.declared.Position.{Position}
 use Rattle.plain.specs.declared.Ledger.{Ledger}
-use Rattle.plain.specs.declared.Outcome.TheVariants as outcome
 use Rattle.plain.specs.Book.{no_position, nth}
 use Rattle.events.specs.declared.Trade.{Trade}
 use Rattle.plain.specs.Netting.{Key, keys, netted}
 use Rattle.plain.specs.Charging.{posted}
 use Rattle.plain.specs.Calls.{call, amount, hands_out}
-use Rattle.plain.specs.Refusals.{refusal, close_reasons}
+use Rattle.plain.specs.Refusals.{close_reasons}
 use Rattle.laws.specs.Asked.{Within}
 use Rattle.plain.proofs.Netted.{New, netted_new}
 use Rattle.tables.specs.Tables as table
 use Rattle.tables.specs.Lent.{position_table, trade_table, award_table}
 use Rattle.rows.specs.Rows.{rows_of}
 use Rattle.laws.specs.Refusals.{first}
+use Rattle.laws.specs.Answers.{number}
+use Rattle.laws.specs.declared.Refusal.{Refusal}
 use Rattle.tables.specs.Late.{LateBefore}
 use Rattle.failing.specs.Counts.{Counted, Numbered}
 use Rattle.failing.proofs.Keeping.{counted_grown, late_before_grown}
@@ -37,7 +38,8 @@ use Rattle.kept.proofs.Auctions.{members_fit}
 use Rattle.kept.proofs.Discharging.{accounted}
 use Rattle.kept.proofs.ClosingDay.{close_number, closed_view, closed_fits}
 use Rattle.machine.specs.declared.Core.{Core}
-use Rattle.machine.specs.View.{Numbers, numbers, kept_of, book_of, held_in, Started, Held, Taken, CalledBare}
+use Rattle.machine.specs.declared.Numbers.{Numbers}
+use Rattle.machine.specs.View.{numbers, kept_of, held_in, Started, Held, Taken, CalledBare}
 use Rattle.machine.specs.Cores.{closed_core}
 use Rattle.machine.proofs.Returns.{refused, taken}
 
@@ -70,15 +72,12 @@ module _ (held count : ℕ) (entry exit more : List Position) (places : held ≤
 new_later : (day : ℕ) (trades : List Trade) (ks : List Key) → All (λ p. day + 1 ≤ p.settlement.0) (netted day trades ks)
 new_later day trades ks = all_of (New day) (λ p. day + 1 ≤ p.settlement.0) (netted day trades ks) (λ p f. omega (arith, f.settlement)) (netted_new day trades ks)
 
-module _ (b : Core) (a : Numbers) (h : Held b a) (number : ℕ) (is : number ≡ first (close_reasons b.auction.position b.day.0)) where
-  close_is : refusal (book_of b a) (call event.Close 0) ≡ number
-  close_is = close_number (kept_of b a) ∙ sym is
+module _ (b : Core) (a : Numbers) (h : Held b a) where
+  pub close_refused : (r : Refusal) → number r ≡ first (close_reasons b.auction.position b.day.0) → CalledBare b a (call event.Close 0) b a (Err r) 0
+  close_refused r e = refused b a (call event.Close 0) r h (close_number (kept_of b a) ∙ sym e)
 
-  pub close_refused : number ≢ 0 → CalledBare b a (call event.Close 0) b a (outcome.Refused number) 0
-  close_refused some = refused b a (call event.Close 0) number h close_is some
-
-  pub close_accepted : number ≡ 0 → Taken b a (call event.Close 0)
-  close_accepted z = record { held = h; accepted = close_is ∙ z }
+  pub close_accepted : 0 ≡ first (close_reasons b.auction.position b.day.0) → Taken b a (call event.Close 0)
+  close_accepted z = record { held = h; accepted = close_number (kept_of b a) ∙ sym z }
 
 -- each position has a word and a count
 pub numbered : (b : Core) (a : Numbers) → Held b a → Numbered (position_table a.rows b.positions)
@@ -102,7 +101,7 @@ module _ (b : Core) (a : Numbers) (t : Taken b a (call event.Close 0)) (zs cs ws
   same : kept_of after later ≡ closed_book (kept_of b a) (position_table zs count)
   same = rw posts
 
-  pub close_done : CalledBare b a (call event.Close 0) after later (outcome.Done 0) 0
+  pub close_done : CalledBare b a (call event.Close 0) after later (Ok 0) 0
   unfolding amount hands_out table.positions
   close_done =
       let h = t.held in

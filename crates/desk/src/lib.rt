@@ -13,17 +13,12 @@ ghost use Rattle.files.specs.File as file;
 ghost use Rattle.answers.specs.Packed as definition;
 ghost use Rattle.page.specs.Answer.{page_answer, page_after};
 
-use calendar::{DateAnswer, DayAnswer};
-use files::Written;
-
 // Refusals 1 to 4 of a register's bytes, or 0 with the number of its securities.
 #[unsafe(no_mangle)]
 pub extern "C" fn desk_register(bytes: &[u8]) -> u64
     ensures { result ≡ definition.packed (register_read bytes.now).number (register_read bytes.now).register.count }
 {
-    let read = register::read_register(bytes);
-    let register = read.register;
-    answers::packed(read.number, register.count as u32)
+    answers::answered(register::read_register(bytes).map(|register| u32::from(register.count)))
 }
 
 // Refusals 27 to 30, or 0 with the date of a business day. Dates are numbers yyyymmdd, holidays four bytes each, little-endian.
@@ -31,11 +26,7 @@ pub extern "C" fn desk_register(bytes: &[u8]) -> u64
 pub extern "C" fn desk_day_to_date(opening: u32, holidays: &[u8], day: u32) -> u64
     ensures { result ≡ definition.packed (date_refusal (day_to_date opening holidays.now day)) (date_value (day_to_date opening holidays.now day)) }
 {
-    let answer = calendar::day_to_date(opening, holidays, day);
-    match answer {
-        DateAnswer::Date(date) => answers::packed(0, date),
-        DateAnswer::Refused(number) => answers::packed(number, 0),
-    }
+    answers::answered(calendar::day_to_date(opening, holidays, day))
 }
 
 // Refusals 27 to 29, or 0 with the number of the business day that a date is.
@@ -43,11 +34,7 @@ pub extern "C" fn desk_day_to_date(opening: u32, holidays: &[u8], day: u32) -> u
 pub extern "C" fn desk_date_to_day(opening: u32, holidays: &[u8], date: u32) -> u64
     ensures { result ≡ definition.packed (day_refusal (date_to_day opening holidays.now date)) (day_value (date_to_day opening holidays.now date)) }
 {
-    let answer = calendar::date_to_day(opening, holidays, date);
-    match answer {
-        DayAnswer::Day(day) => answers::packed(0, day.0 as u32),
-        DayAnswer::Refused(number) => answers::packed(number, 0),
-    }
+    answers::answered(calendar::date_to_day(opening, holidays, date).map(|day| u32::from(day.0)))
 }
 
 // The step that a day allows besides delivery, by the kind of its event: 4 attempt, 8 cash, 0 none.
@@ -106,11 +93,7 @@ pub extern "C" fn desk_late_fine(value: u64) -> u64
 pub extern "C" fn desk_file(bytes: &[u8]) -> u64
     ensures { result ≡ definition.packed (file.refusal bytes.now) (accepted (file.refusal bytes.now) (file.count bytes.now) 0) }
 {
-    let number = files::file_refusal(bytes);
-    if number == 0 {
-        return answers::packed(0, files::event_count(bytes) as u32);
-    }
-    answers::packed(number, 0)
+    answers::answered(files::file_refusal(bytes).map(|()| u32::from(files::event_count(bytes))))
 }
 
 // A file read and its events written into the page: refusals 5 to 7, or 0 with the bytes written.
@@ -118,11 +101,7 @@ pub extern "C" fn desk_file(bytes: &[u8]) -> u64
 pub extern "C" fn desk_copy_file(bytes: &[u8], page: &mut [u8]) -> u64
     ensures { (result ≡ definition.packed (file.copying_refusal bytes.now (length page.old)) (accepted (file.copying_refusal bytes.now (length page.old)) (length bytes.now) 0)) × (page.new ≡ file.page_after (file.copying_refusal bytes.now (length page.old)) bytes.now page.old) }
 {
-    let written = files::copy_file(bytes, page);
-    match written {
-        Written::Done(count) => answers::packed(0, count),
-        Written::Refused(number) => answers::packed(number, 0),
-    }
+    answers::answered(files::copy_file(bytes, page))
 }
 
 // The positions at the end of a file that is played on a new book, a line of 80 columns and a line feed each: the bytes written, or refusals 1
@@ -131,5 +110,8 @@ pub extern "C" fn desk_copy_file(bytes: &[u8], page: &mut [u8]) -> u64
 pub extern "C" fn desk_page(register: &[u8], file: &[u8], page: &mut [u8]) -> u64
     ensures { (result ≡ page_answer register.now file.now page.old) × (page.new ≡ page_after register.now file.now page.old) }
 {
-    page::show(register, file, page)
+    match page::show(register, file, page) {
+        Ok(written) => written as u64,
+        Err(refusal) => u64::from(u8::from(refusal)),
+    }
 }

@@ -1,9 +1,10 @@
 -- A cash settlement in place: its refusals are the plain book's, and pricing by the positions as the dealing left them is pricing by those before it,
 -- since only members and references are gone by.
+use Rattle.std.proofs.Common.{Err, Ok, Option}
+use Rattle.plain.specs.declared.Latest.{Latest}
 use Prim.Native.Nat.{ℕ, zero, suc, ◌-◌}
 use native.Mathlib.Omega.{arith}
-use mathlib.Core.Path.{◌≡◌, refl, ap, sym, ◌∙◌}
-use mathlib.Core.Logic.{◌≢◌}
+use mathlib.Core.Path.{◌≡◌, refl, ap, sym, ◌∙◌, subst}
 use mathlib.Core.List.{List, [], ◌∷◌, ◌++◌, map}
 use lib.ListN.{length, take, get_or, length-map}
 use Rattle.laws.specs.Limits.{SHEET_CELLS}
@@ -13,12 +14,10 @@ use Rattle.rules.specs.Windows.{step_on}
 use Rattle.rules.specs.declared.Step.{Step}
 use Rattle.events.specs.declared.Cash.{Cash}
 use Rattle.events.specs.declared.Event.TheVariants as event
-use Rattle.plain.specs.declared.LatestPrice.{LatestPrice}
 use Rattle.plain.specs.declared.Position.{Position}
 use Rattle.plain.specs.declared.Piece.{Piece}
 use Rattle.plain.specs.declared.Ledger.{Ledger}
 use Rattle.plain.specs.declared.Manner.TheVariants as manner
-use Rattle.plain.specs.declared.Outcome.TheVariants as outcome
 use Rattle.plain.specs.Book.{no_position, no_price, nth, looked_up}
 use Rattle.plain.specs.Dealing.{lowered, lowering}
 use Rattle.plain.specs.Charging.{Charge, payment, posted, settlement_price, priced_at, cash_charges_by, fee_of}
@@ -33,7 +32,9 @@ use Rattle.tables.specs.declared.Pieces.{Pieces}
 use Rattle.tables.specs.Tables as table
 use Rattle.pieces.specs.Sheet.{pieces_of, sheet_with}
 use Rattle.plain.proofs.Numbered.{nth_alike}
+use Rattle.laws.specs.Answers as answers
 use Rattle.laws.specs.Refusals.{first}
+use Rattle.laws.specs.declared.Refusal.{Refusal}
 use Rattle.ledger.specs.Tabled.{Accounted, Priced, PricedOn}
 use Rattle.ledger.proofs.Elements.{position_numbered}
 use Rattle.positions.specs.Dealing.{dealt_out}
@@ -43,7 +44,8 @@ use Rattle.kept.specs.View.{view, Valid}
 use Rattle.kept.specs.Discharging.{Terms, Dischargeable}
 use Rattle.kept.proofs.Discharging.{positions_many, accounted, lookup_there, missing_number, cash_split, cash_number, cash_terms_lem, cash_dealing, cash_priceable, cash_price_lem, cash_room, settled}
 use Rattle.machine.specs.declared.Core.{Core}
-use Rattle.machine.specs.View.{Numbers, numbers, followed, followed_in, kept_of, book_of, held_in, Held, Taken, CashTerms, CalledOn, Discharging, Discharged}
+use Rattle.machine.specs.declared.Numbers.{Numbers}
+use Rattle.machine.specs.View.{numbers, followed_in, kept_of, book_of, held_in, Held, Taken, CashTerms, CalledOn, Discharging, Discharged}
 use Rattle.machine.proofs.Returns.{refused_on, taken_on}
 use Rattle.machine.proofs.Walking.{row_is, discharging, filled_read}
 
@@ -82,23 +84,23 @@ module _ (price : ℕ) (p q : Positions) (members : (k : ℕ) → (nth no_positi
 
 -- the refusals
 module _ (b : Core) (a : Numbers) (h : Held b a) (c : Cash) where
-  pub cash_missing : (number : ℕ) (sheet : List ℕ) → number ≡ first (lookup_reasons 1024 b.positions c.position) → number ≢ 0 → length sheet ≡ SHEET_CELLS
-      → CalledOn b a (call (event.Cash c) 1024) sheet b a sheet (outcome.Refused number) 0
-  cash_missing number sheet e some long =
-      refused_on b a (call (event.Cash c) 1024) sheet number h (missing_number (lookup_reasons 1024 _ _) _ _ (cash_split (kept_of b a) h.valid c 1024) number e some) some long
+  pub cash_missing : (r : Refusal) (sheet : List ℕ) → answers.number r ≡ first (lookup_reasons 1024 b.positions c.position) → length sheet ≡ SHEET_CELLS
+      → CalledOn b a (call (event.Cash c) 1024) sheet b a sheet (Err r) 0
+  cash_missing r sheet e long =
+      refused_on b a (call (event.Cash c) 1024) sheet r h (missing_number (lookup_reasons 1024 _ _) _ _ (cash_split (kept_of b a) h.valid c 1024) (answers.number r) e (answers.number_some r)) long
 
-  module _ (p : Position) (class : ℕ) (latest : LatestPrice) (today : Step) (number : ℕ) (there : first (lookup_reasons 1024 b.positions c.position) ≡ 0) (own : p ≡ row_of a.rows c.position)
+  module _ (p : Position) (class : ℕ) (latest : Option Latest) (today : Step) (there : 0 ≡ first (lookup_reasons 1024 b.positions c.position)) (own : p ≡ row_of a.rows c.position)
       (classed : class ≡ nth 0 b.opening.register.classes p.security) (looked : latest ≡ looked_up (nth no_price (table.prices b.prices) p.security))
-      (step : today ≡ step_on class (b.day.0 - p.settlement.0)) (is : number ≡ first (cash_reasons p b.day.0 today latest)) where
-    number_is : refusal (book_of b a) (call (event.Cash c) 1024) ≡ number
-    number_is =
-        cash_number (kept_of b a) h.valid c 1024 p class latest today number there (own ∙ row_is b a h c.position (lookup_there 1024 b.positions c.position there)) classed looked step is
+      (step : today ≡ step_on class (b.day.0 - p.settlement.0)) where
+    number_is : (n : ℕ) → n ≡ first (cash_reasons p b.day.0 today latest) → refusal (book_of b a) (call (event.Cash c) 1024) ≡ n
+    number_is n is =
+        cash_number (kept_of b a) h.valid c 1024 p class latest today n (sym there) (own ∙ row_is b a h c.position (lookup_there 1024 b.positions c.position (sym there))) classed looked step is
 
-    pub cash_refused : (sheet : List ℕ) → number ≢ 0 → length sheet ≡ SHEET_CELLS → CalledOn b a (call (event.Cash c) 1024) sheet b a sheet (outcome.Refused number) 0
-    cash_refused sheet some long = refused_on b a (call (event.Cash c) 1024) sheet number h number_is some long
+    pub cash_refused : (r : Refusal) (sheet : List ℕ) → answers.number r ≡ first (cash_reasons p b.day.0 today latest) → length sheet ≡ SHEET_CELLS → CalledOn b a (call (event.Cash c) 1024) sheet b a sheet (Err r) 0
+    cash_refused r sheet is long = refused_on b a (call (event.Cash c) 1024) sheet r h (number_is (answers.number r) is) long
 
-    pub cash_accepted : number ≡ 0 → Taken b a (call (event.Cash c) 1024)
-    cash_accepted z = record { held = h; accepted = number_is ∙ z }
+    pub cash_accepted : 0 ≡ first (cash_reasons p b.day.0 today latest) → Taken b a (call (event.Cash c) 1024)
+    cash_accepted none = record { held = h; accepted = number_is 0 none }
 
 -- the settlement
 module _ (b : Core) (a : Numbers) (c : Cash) (t : Taken b a (call (event.Cash c) 1024)) (p : Position) (class latest : ℕ) (terms : CashTerms b a.rows c.position p class latest) where
@@ -128,9 +130,13 @@ module _ (b : Core) (a : Numbers) (c : Cash) (t : Taken b a (call (event.Cash c)
       discharging b a t.held c.position p.unsettled manner.Cash (cash_dealing (kept_of b a) v c able p.unsettled class latest by) p sheet
       (λ e. (cash_taken (book_of b a) c 1024 t.accepted).unsettled (sym by.unsettled ∙ e)) terms.own long
 
-  module _ (sheet zs cs ss ws mid : List ℕ) (made : ℕ) (w : Discharged b.day.0 a.rows sheet b.positions c.position p.unsettled manner.Cash zs cs mid (followed ss ws b.late) made) where
+  module _ (y : Numbers) (sheet mid : List ℕ) (made : ℕ) (same : y ≡ record a { rows = y.rows; counts = y.counts; starts = y.starts; words = y.words })
+      (w : Discharged b.day.0 a.rows sheet b.positions c.position p.unsettled manner.Cash y.rows y.counts mid (followed_in b y) made) where
+    ledger_same : y.ledger ≡ a.ledger
+    ledger_same = ap (λ (n : Numbers). n.ledger) same
+
     abbrev left_table : Positions
-    left_table = position_table zs b.positions
+    left_table = position_table y.rows b.positions
 
     abbrev dealt_pieces : Pieces
     dealt_pieces = piece_table mid made
@@ -185,8 +191,8 @@ module _ (b : Core) (a : Numbers) (c : Cash) (t : Taken b a (call (event.Cash c)
     owed_of x e =
         ap (λ (k : ℕ). (nth no_position (table.positions left_table) k).member) e ∙ members c.position ∙ ap (λ (q : Position). q.member) (sym own)
 
-    pub settleable : Settleable a.ledger (settlement_of class latest p left_table dealt_pieces) left_table dealt_pieces p.member
-    settleable =
+    settleable_before : Settleable a.ledger (settlement_of class latest p left_table dealt_pieces) left_table dealt_pieces p.member
+    settleable_before =
         let g = cash_priceable (kept_of b a) v c able p.unsettled class latest by _ w.dealt in
         let all = accounted (kept_of b a) v in
         record {
@@ -197,13 +203,20 @@ module _ (b : Core) (a : Numbers) (c : Cash) (t : Taken b a (call (event.Cash c)
           account = rw terms.own (position_numbered old g.positions_fit Accounted c.position inside all).member;
         }
 
+    pub settleable : Settleable y.ledger (settlement_of class latest p left_table dealt_pieces) left_table dealt_pieces p.member
+    settleable =
+        subst (λ (l : Ledger). Settleable l (settlement_of class latest p left_table dealt_pieces) left_table dealt_pieces p.member) (sym ledger_same) settleable_before
+
     pub cash_done : (left : List ℕ) (l : Ledger) → PricedOn mid made price left
-        → l ≡ posted a.ledger (settlement_of class latest p left_table dealt_pieces)
-        → CalledOn b a (call (event.Cash c) 1024) sheet b (numbers zs a.trades a.awards cs ss ws l) left (outcome.Done p.unsettled) made
+        → l ≡ posted y.ledger (settlement_of class latest p left_table dealt_pieces)
+        → CalledOn b a (call (event.Cash c) 1024) sheet b (record y { ledger = l }) left (Ok p.unsettled) made
     unfolding table.pieces
     cash_done left l on posts =
         let g = on.priced in
-        let r = settled (kept_of b a) v c able p.unsettled class latest by _ w.dealt price price_same (piece_table left made) g l (posts ∙ ap (posted a.ledger) (charges_are (piece_table left made) g)) in
-        taken_on b a (call (event.Cash c) 1024) sheet b (numbers zs a.trades a.awards cs ss ws l) left p.unsettled made t.held t.accepted r.quantity r.pieces r.book r.fits
+        let charged : l ≡ posted a.ledger (cash_charges_by latest (table.positions old) c.position (table.pieces (piece_table left made))) =
+        posts ∙ ap (λ (m : Ledger). posted m (settlement_of class latest p left_table dealt_pieces)) ledger_same ∙ ap (posted a.ledger) (charges_are (piece_table left made) g) in
+        let r = settled (kept_of b a) v c able p.unsettled class latest by _ w.dealt price price_same (piece_table left made) g l charged in
+        subst (λ (n : Numbers). CalledOn b a (call (event.Cash c) 1024) sheet b (record n { ledger = l }) left (Ok p.unsettled) made) (sym same)
+        (taken_on b a (call (event.Cash c) 1024) sheet b (numbers y.rows a.trades a.awards y.counts y.starts y.words l) left p.unsettled made t.held t.accepted r.quantity r.pieces r.book r.fits
         (record { rows = w.rows_length; trades = t.held.lent.trades; awards = t.held.lent.awards; follows = w.follows })
-        (on.filled sheet (filled_read w) ∙ ap (λ (xs : List Piece). sheet_with xs sheet) (sym g.priced)) on.sheet_length w.dealt.pieces_fit.held
+        (on.filled sheet (filled_read w) ∙ ap (λ (xs : List Piece). sheet_with xs sheet) (sym g.priced)) on.sheet_length w.dealt.pieces_fit.held)

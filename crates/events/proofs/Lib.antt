@@ -1,3 +1,2 @@
-pub mod Others
-pub mod MaskTable
+pub mod TwoWords
 pub mod Writing

@@ -4,7 +4,7 @@
 
 ghost use Rattle.std.specs.Prelude.{◌≡◌, ◌+◌, ◌≤◌, ◌<◌, length, get_or, take, drop};
 ghost use Rattle.std.proofs.lemmas.List.Edits.{sets};
-ghost use Rattle.laws.specs.Words.{word16_at, word32_at, word64_at, bytes16, bytes32};
+ghost use Rattle.laws.specs.Words.{word16_at, word32_at, word64_at, bytes16};
 ghost use Rattle.events.specs.Layout.{BODY};
 ghost use Rattle.events.specs.Body.{Fits, InWidth, body, event_from, fields, fields_at, fields_of, kind_of, spare_set};
 ghost use Rattle.events.specs.Masks.{body_bytes, masks_of};
@@ -106,6 +106,17 @@ pub struct Fields {
     pub secondkind: u8,
 }
 
+// A body all of whose fields are 0.
+const NO_FIELD: Fields = Fields {
+    subject: 0,
+    first: 0,
+    second: 0,
+    quantity: 0,
+    price: 0,
+    firstkind: 0,
+    secondkind: 0,
+};
+
 // Two masks: which bytes of a body are to be zero, of the first eight and of the last eight.
 #[derive(Clone, Copy)]
 struct Masks(u64, u64);
@@ -129,8 +140,6 @@ const FIRST_KIND_AT: usize = 12;
 
 const SECOND_KIND_AT: usize = 13;
 
-const LAST_AT: usize = 14;
-
 // Where the two words of eight bytes begin that a body is tested by.
 const LOW_AT: usize = 0;
 
@@ -140,76 +149,54 @@ const HIGH_AT: usize = 8;
 pub fn byte_at(bytes: &[u8], at: usize) -> u8
     ensures { result ≡ get_or bytes.now at 0 }
 {
-    if at < bytes.len() { bytes[at] } else { 0 }
+    bytes.get(at).copied().unwrap_or(0)
 }
 
 pub fn word16_at(bytes: &[u8], at: usize) -> u16
     requires { at < 4294967296 }
     ensures { result ≡ word16_at bytes.now at }
 {
-    words::word16(byte_at(bytes, at), byte_at(bytes, at + 1))
+    u16::from_le_bytes([byte_at(bytes, at), byte_at(bytes, at + 1)])
 }
 
 fn word32_at(bytes: &[u8], at: usize) -> u32
     requires { at < 4294967296 }
     ensures { result ≡ word32_at bytes.now at }
 {
-    words::word32(
+    u32::from_le_bytes([
         byte_at(bytes, at),
         byte_at(bytes, at + 1),
         byte_at(bytes, at + 2),
         byte_at(bytes, at + 3),
-    )
+    ])
 }
 
 fn word64_at(bytes: &[u8], at: usize) -> u64
     requires { at < 2147483648 }
     ensures { result ≡ word64_at bytes.now at }
 {
-    words::word64(word32_at(bytes, at), word32_at(bytes, at + 4))
-}
-
-fn fields_with(
-    subject: u16,
-    first: u8,
-    second: u8,
-    quantity: u32,
-    price: u32,
-    firstkind: u8,
-    secondkind: u8,
-) -> Fields
-    ensures value { result ≡ fields subject first second quantity price firstkind secondkind }
-    ensures in_width { InWidth result }
-{
-    Fields {
-        subject,
-        first,
-        second,
-        quantity,
-        price,
-        firstkind,
-        secondkind,
-    }
+    u64::from(word32_at(bytes, at)) + (u64::from(word32_at(bytes, at + 4)) << 32)
 }
 
 // The fields of the body that begins at a place.
+#[tactic(auto, unfolding(crate::specs::Body::fields_at))]
 pub fn fields_at(bytes: &[u8], at: usize) -> Fields
     requires { at < 2147483648 }
     ensures { result ≡ fields_at bytes.now at }
 {
-    let subject = word16_at(bytes, at + SUBJECT_AT);
-    let first = byte_at(bytes, at + FIRST_AT);
-    let second = byte_at(bytes, at + SECOND_AT);
-    let quantity = word32_at(bytes, at + QUANTITY_AT);
-    let price = word32_at(bytes, at + PRICE_AT);
-    let firstkind = byte_at(bytes, at + FIRST_KIND_AT);
-    let secondkind = byte_at(bytes, at + SECOND_KIND_AT);
-    fields_with(
-        subject, first, second, quantity, price, firstkind, secondkind,
-    )
+    Fields {
+        subject: word16_at(bytes, at + SUBJECT_AT),
+        first: byte_at(bytes, at + FIRST_AT),
+        second: byte_at(bytes, at + SECOND_AT),
+        quantity: word32_at(bytes, at + QUANTITY_AT),
+        price: word32_at(bytes, at + PRICE_AT),
+        firstkind: byte_at(bytes, at + FIRST_KIND_AT),
+        secondkind: byte_at(bytes, at + SECOND_KIND_AT),
+    }
 }
 
-// The event of a kind with these fields. A byte that is no kind gives a close; no file that passes has one.
+// The event of a kind with these fields. The kind is the file's byte, whatever it is: one that is no kind gives a close; no file that passes has one.
+#[tactic(auto, unfolding(crate::specs::Body::event_from))]
 pub fn event_from(kind: u8, f: Fields) -> Event
     ensures { result ≡ event_from kind f }
 {
@@ -254,6 +241,7 @@ pub fn event_from(kind: u8, f: Fields) -> Event
 
 // The masks of a kind, of the first eight bytes of a body and of the last eight: ff at each byte that is spare in the kind, 00 at
 // those that it uses, the lowest byte on the right. The compiler keeps the arms as a table; an array it would build at each call.
+#[tactic(auto, unfolding(crate::specs::Masks::masks_in, crate::specs::Layout::marks_of, laws::specs::Words::word_of))]
 fn masks_of(kind: u8) -> Masks
     ensures { result ≡ masks_of kind }
 {
@@ -281,14 +269,12 @@ fn spare_set(kind: u8, low: u64, high: u64) -> bool
     ensures { result ≡ spare_set kind (body_bytes low high) }
 {
     let masks = masks_of(kind);
-    if low & masks.0 != 0 {
-        return true;
-    }
-    high & masks.1 != 0
+    low & masks.0 != 0 || high & masks.1 != 0
 }
 
 // The same of the body that begins at a place. It is lent as a part of sixteen bytes, so that the compiler sees that no byte is
 // missing and reads each word at once.
+#[tactic(auto, using(crate::proofs::TwoWords::two_words))]
 pub fn body_spare_set(kind: u8, file: &[u8], at: usize) -> bool
     requires { at + BODY ≤ length file.now }
     ensures { result ≡ spare_set kind (take BODY (drop at file.now)) }
@@ -297,6 +283,7 @@ pub fn body_spare_set(kind: u8, file: &[u8], at: usize) -> bool
     spare_set(kind, word64_at(body, LOW_AT), word64_at(body, HIGH_AT))
 }
 
+#[tactic(auto, unfolding(crate::specs::Body::kind_of))]
 pub fn kind_of(event: Event) -> u8
     ensures { result ≡ kind_of event }
 {
@@ -315,29 +302,61 @@ pub fn kind_of(event: Event) -> u8
 }
 
 // What an event writes into each field; a field that its kind has no use for is 0.
+#[tactic(auto, unfolding(crate::specs::Body::fields_of))]
 pub fn fields_of(event: Event) -> Fields
     ensures value { result ≡ fields_of event }
     ensures fits { Fits event }
 {
     match event {
-        Event::Trade(t) => fields_with(
-            t.security,
-            t.seller,
-            t.buyer,
-            t.quantity,
-            t.price,
-            t.sellerkind,
-            t.buyerkind,
-        ),
-        Event::Price(p) => fields_with(p.security, 0, 0, 0, p.price, 0, 0),
-        Event::Delivery(d) => fields_with(d.position, 0, 0, d.quantity, 0, 0, 0),
-        Event::Attempt(a) => fields_with(a.position, 0, 0, 0, 0, 0, 0),
-        Event::Offer(o) => fields_with(o.position, o.offerer, 0, o.quantity, o.price, 0, 0),
-        Event::Award(a) => fields_with(a.position, 0, 0, 0, 0, 0, 0),
-        Event::Confirm(c) => fields_with(c.award, 0, 0, 0, 0, 0, 0),
-        Event::Cash(c) => fields_with(c.position, 0, 0, 0, 0, 0, 0),
-        Event::Close => fields_with(0, 0, 0, 0, 0, 0, 0),
-        Event::PairOff(p) => fields_with(p.short, 0, 0, p.quantity, p.long, 0, 0),
+        Event::Trade(t) => Fields {
+            subject: t.security,
+            first: t.seller,
+            second: t.buyer,
+            quantity: t.quantity,
+            price: t.price,
+            firstkind: t.sellerkind,
+            secondkind: t.buyerkind,
+        },
+        Event::Price(p) => Fields {
+            subject: p.security,
+            price: p.price,
+            ..NO_FIELD
+        },
+        Event::Delivery(d) => Fields {
+            subject: d.position,
+            quantity: d.quantity,
+            ..NO_FIELD
+        },
+        Event::Attempt(a) => Fields {
+            subject: a.position,
+            ..NO_FIELD
+        },
+        Event::Offer(o) => Fields {
+            subject: o.position,
+            first: o.offerer,
+            quantity: o.quantity,
+            price: o.price,
+            ..NO_FIELD
+        },
+        Event::Award(a) => Fields {
+            subject: a.position,
+            ..NO_FIELD
+        },
+        Event::Confirm(c) => Fields {
+            subject: c.award,
+            ..NO_FIELD
+        },
+        Event::Cash(c) => Fields {
+            subject: c.position,
+            ..NO_FIELD
+        },
+        Event::Close => NO_FIELD,
+        Event::PairOff(p) => Fields {
+            subject: p.short,
+            quantity: p.quantity,
+            price: p.long,
+            ..NO_FIELD
+        },
     }
 }
 
@@ -345,31 +364,42 @@ pub fn put16(page: &mut [u8], at: usize, word: u16)
     requires { at + 2 ≤ length page.old }
     ensures { page.new ≡ sets page.old at (bytes16 word) }
 {
-    page[at] = (word % 256) as u8;
-    page[at + 1] = (word / 256 % 256) as u8;
+    page[at..at + 2].copy_from_slice(&word.to_le_bytes());
 }
 
-fn put32(page: &mut [u8], at: usize, word: u32)
-    requires { at + 4 ≤ length page.old }
-    ensures { page.new ≡ sets page.old at (bytes32 word) }
+// The bytes of a body; the two last hold no field.
+#[tactic(auto, unfolding(crate::specs::Body::body))]
+fn body(f: Fields) -> [u8; BODY]
+    ensures { result ≡ body f }
 {
-    page[at] = (word % 256) as u8;
-    page[at + 1] = (word / 256 % 256) as u8;
-    page[at + 2] = (word / 65536 % 256) as u8;
-    page[at + 3] = (word / 16777216 % 256) as u8;
+    let [s0, s1] = f.subject.to_le_bytes();
+    let [q0, q1, q2, q3] = f.quantity.to_le_bytes();
+    let [p0, p1, p2, p3] = f.price.to_le_bytes();
+    [
+        s0,
+        s1,
+        f.first,
+        f.second,
+        q0,
+        q1,
+        q2,
+        q3,
+        p0,
+        p1,
+        p2,
+        p3,
+        f.firstkind,
+        f.secondkind,
+        0,
+        0,
+    ]
 }
 
-// A body, from a place on; the two last bytes hold no field.
+// A body, from a place on.
+#[tactic(auto, using(crate::proofs::Writing::part_put))]
 pub fn put_body(page: &mut [u8], at: usize, f: Fields)
     requires { at + BODY ≤ length page.old }
     ensures { page.new ≡ sets page.old at (body f) }
 {
-    put16(page, at + SUBJECT_AT, f.subject);
-    page[at + FIRST_AT] = f.first;
-    page[at + SECOND_AT] = f.second;
-    put32(page, at + QUANTITY_AT, f.quantity);
-    put32(page, at + PRICE_AT, f.price);
-    page[at + FIRST_KIND_AT] = f.firstkind;
-    page[at + SECOND_KIND_AT] = f.secondkind;
-    put16(page, at + LAST_AT, 0);
+    page[at..at + BODY].copy_from_slice(&body(f));
 }

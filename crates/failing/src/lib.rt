@@ -22,10 +22,7 @@ pub fn is_failing(word: u64, member: u8) -> bool
     ensures { result ≡ bit word member }
 {
     // the word has no bit for a member above 63, and no shift goes so far
-    if MEMBERS < member {
-        return false;
-    }
-    (word >> member) % 2 == 1
+    member <= MEMBERS && (word >> member) % 2 == 1
 }
 
 // The word of a security.
@@ -69,10 +66,9 @@ fn with_late_short(
     ensures { (day next : ℕ) (ps qs : List plain.Position) → spec.Counted day ps words.old counts.old → spec.OneMore day ps next qs security member → spec.Counted next qs words.new counts.new }
 {
     let place = count_place(security, member);
-    counts[place] = counts[place] + 1;
+    counts[place] += 1;
     let k = (security - 1) as usize;
-    let before = words[k];
-    words[k] = with_member(before, member);
+    words[k] = with_member(words[k], member);
 }
 
 // The member holds one late open short in the security less, and with the last of them ceases to be failing in it.
@@ -86,14 +82,12 @@ fn without_late_short(
     ensures { ((day : ℕ) (ps qs : List plain.Position) → spec.Counted day ps words.old counts.old → spec.OneMore day qs day ps security member → spec.Counted day qs words.new counts.new) × (length counts.new ≡ COUNT_CELLS) }
 {
     let place = count_place(security, member);
-    let left = counts[place] - 1;
-    counts[place] = left;
-    if 0 < left {
+    counts[place] -= 1;
+    if 0 < counts[place] {
         return;
     }
     let k = (security - 1) as usize;
-    let before = words[k];
-    words[k] = without_member(before, member);
+    words[k] = without_member(words[k], member);
 }
 
 // What a discharge of the short `p`, given as it was before, makes of the words.
@@ -119,10 +113,7 @@ pub fn discharged(
 fn is_open_short(p: Position) -> bool
     ensures { result ≡ p.short && ltb 0 p.unsettled }
 {
-    if !p.short {
-        return false;
-    }
-    0 < p.unsettled
+    p.short && 0 < p.unsettled
 }
 
 // At the close of a day, the open shorts that are due on it become late. The table is in order of rising delivery days, so
@@ -138,13 +129,14 @@ pub fn raise_late(
     requires { (spec.Numbered (position_table rows.now held)) × (Rising (tables.positions (position_table rows.now held))) × (spec.Counted day.0 (tables.positions (position_table rows.now held)) words.old counts.old) × (LateBefore day.0 (tables.positions (position_table rows.now held)) from) }
     ensures { (spec.Counted (day.0 + 1) (tables.positions (position_table rows.now held)) words.new counts.new) × (LateBefore (day.0 + 1) (tables.positions (position_table rows.now held)) result) }
 {
-    let mut i = from;
-    while i < held && rows::settlement_at(rows, i) <= day.0 {
+    for i in from..held {
+        if day.0 < rows::settlement_at(rows, i) {
+            return i;
+        }
         let p = rows::row_at(rows, i);
         if is_open_short(p) {
             with_late_short(words, counts, p.security, p.member);
         }
-        i += 1;
     }
-    i
+    held
 }

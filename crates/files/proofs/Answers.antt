@@ -7,11 +7,11 @@ use lib.ListN.{length, get_or, take}
 use borrow.Author.Tests.{lt-ltb, le-ltb, ne_eqb}
 use Rattle.laws.specs.Limits.{EVENTS}
 use Rattle.laws.specs.Lists.{All}
+use Rattle.laws.specs.Answers.{answer}
 use Rattle.laws.specs.Parts.{padded, take_padded}
 use Rattle.laws.specs.Alls.{all_places}
 use Rattle.events.specs.declared.Event.{Event}
-use Rattle.files.specs.declared.Written.{Written}
-use Rattle.files.specs.File.{count, size, events_of, file_of, refusal, writing_refusal, copying_refusal, answer, page_after}
+use Rattle.files.specs.File.{count, size, events_of, file_of, refusal, writing_refusal, copying_refusal, page_after}
 use Rattle.files.specs.Passing.{Passing, passing, passing_same, events_counted}
 
 -- ---- the refusal of writing
@@ -30,10 +30,6 @@ enough n room h k = rw (le-ltb EVENTS n h, le-ltb room (size n) k)
 
 -- ---- a refusal that is not 0
 
-pub refused : (r bytes : ℕ) → (r ≡ 0 → ⊥) → Written.Refused r ≡ answer r bytes
-refused zero bytes h = absurd (h refl)
-refused (suc r) bytes h = refl
-
 pub kept_page : (r : ℕ) (file page : List ℕ) → (r ≡ 0 → ⊥) → page ≡ page_after r file page
 kept_page zero file page h = absurd (h refl)
 kept_page (suc r) file page h = refl
@@ -44,7 +40,7 @@ pub refused_file : (file : List ℕ) (room : ℕ) → (refusal file ≡ 0 → �
 unfolding copying_refusal
 refused_file file room h = rw (ne_eqb (refusal file) 0 h)
 
-pub passed_file : (file : List ℕ) (room : ℕ) → refusal file ≡ 0 → copying_refusal file room ≡ writing_refusal (count file) room
+passed_file : (file : List ℕ) (room : ℕ) → refusal file ≡ 0 → copying_refusal file room ≡ writing_refusal (count file) room
 unfolding copying_refusal writing_refusal
 passed_file file room e = rw (e, le-ltb EVENTS (count file) (passing file e).few)
 

@@ -3,7 +3,7 @@ use Prim.Native.Nat.{ℕ, suc, ◌+◌, ◌*◌, ◌≤◌, ◌<◌}
 use native.Mathlib.Omega.{arith}
 use mathlib.Core.Path.{◌≡◌, refl, ap, ap₂, ◌∙◌}
 use mathlib.Core.List.{List, ◌++◌}
-use lib.ListN.{length, get_or, take, drop, length-drop, drop_of_length-le}
+use lib.ListN.{length, get_or, take, drop, length-drop}
 use lib.Seq.{drop-drop, drop-cons, length-take-le}
 use borrow.Author.Tests.{lt-ltb, le-ltb, eq-eqb, ne_eqb}
 use Rattle.laws.specs.Limits.{EVENTS}
@@ -43,11 +43,6 @@ module _ (file : List ℕ) (n : ℕ) (long : length file ≡ size n) where
   pub left_next : (i : ℕ) → i < n → first (placed file n i) ≡ 0 → first (left file n i) ≡ first (left file n (suc i))
   left_next i h e =
       ap first (left_more i h) ∙ first_past (placed file n i) (left file n (suc i)) refl e
-
-  pub left_none : (i : ℕ) → n ≤ i → first (left file n i) ≡ 0
-  left_none i h =
-      ap (λ (kinds : List ℕ). first (checks kinds (drop (BODY * i) (bodies_in file n))))
-      (drop_of_length-le (kinds_in file n) {i = i} (omega (arith, length_kinds)))
 
 -- ---- refusal 5, and then the events
 

@@ -3,10 +3,10 @@ use Prim.Native.Nat.{ℕ, ◌+◌, ◌*◌, ◌≤◌, ◌<◌}
 use native.Mathlib.Nat.{mul-zero, mul-suc, add_comm}
 use native.Mathlib.Numerals.{add-one}
 use native.Mathlib.Omega.{arith}
-use mathlib.Core.Path.{◌≡◌, refl, ap, ap₂, sym, subst, ◌∙◌}
+use mathlib.Core.Path.{◌≡◌, refl, ap, ap₂, sym, ◌∙◌}
 use mathlib.Core.List.{List, [], ◌∷◌, ◌++◌, map, append-nil}
 use lib.ListN.{length, get_or, take, drop, length-append, length-map}
-use lib.Seq.{sets, length-sets, take-suc, length-take-le}
+use lib.Seq.{sets, take-suc, length-take-le}
 use Rattle.laws.specs.Words.{bytes16}
 use Rattle.laws.specs.Limits.{EVENTS}
 use Rattle.laws.specs.Lists.{All, each}
@@ -31,10 +31,6 @@ event_written page next at e f p q =
 abbrev pub kind_byte : Event → List ℕ
 kind_byte e = kind_of e ∷ []
 
-pub kind_bytes : (es : List Event) → each kind_byte es ≡ map kind_of es
-kind_bytes [] = refl
-kind_bytes (e ∷ es) = ap (λ (l : List ℕ). kind_of e ∷ l) (kind_bytes es)
-
 -- one more part: what the next element writes, where those before it end
 module _ {A : Type 0} (part : A → List ℕ) (width : ℕ) (wide : (x : A) → length (part x) ≡ width) where
   length_parts : (xs : List A) → length (each part xs) ≡ width * length xs
@@ -50,24 +46,10 @@ module _ {A : Type 0} (part : A → List ℕ) (width : ℕ) (wide : (x : A) → 
       rw (add-one i, take-suc xs i d h) (each_append part (take i xs) (get_or xs i d ∷ []) ∙ ap (λ (l : List ℕ). each part (take i xs) ++ l) (append-nil (part (get_or xs i d)))) in
       sets_then page₀ page next (each part (take i xs)) (part (get_or xs i d)) at j e f (omega (arith, many)) ∙ ap (sets page₀ at) (sym more)
 
-  -- all n of them
-  pub parts_written : (page₀ page : List ℕ) (xs : List A) (at i n : ℕ) → page ≡ sets page₀ at (each part (take i xs)) → i ≤ n → n ≤ i → page ≡ sets page₀ at (each part (take n xs))
-  parts_written page₀ page xs at i n e h k =
-      let same : i ≡ n = omega arith in
-      e ∙ ap (λ (m : ℕ). sets page₀ at (each part (take m xs))) same
-
 -- P holds of one more element
 pub all_more : {A : Type 0} (P : A → Type 0) (xs : List A) (i : ℕ) (d : A) → i < length xs → All P (take i xs) → P (get_or xs i d) → All P (take (i + 1) xs)
 all_more P xs i d h before here =
     rw (add-one i, take-suc xs i d h) (all_append P (take i xs) (get_or xs i d ∷ []) before (here, tt))
-
-pub all_of_them : {A : Type 0} (P : A → Type 0) (xs : List A) {i n : ℕ} → All P (take i xs) → i ≤ n → n ≤ i → All P (take n xs)
-all_of_them P xs {i} {n} before h k =
-    let same : i ≡ n = omega arith in
-    subst (λ (m : ℕ). All P (take m xs)) same before
-
-pub same_long : (page₀ page vs : List ℕ) (at : ℕ) → page ≡ sets page₀ at vs → length page ≡ length page₀
-same_long page₀ page vs at e = ap length e ∙ length-sets page₀ at vs
 
 -- ---- the whole file
 

@@ -8,7 +8,6 @@ use Rattle.laws.specs.WordLaws.{nonzero}
 use Rattle.events.specs.declared.Event.{Event}
 use Rattle.events.specs.Layout.{BODY}
 use Rattle.events.specs.Body.{kind_of, body_of, event_read, is_kind, spare_set}
-use Rattle.files.specs.declared.Written.{Written}
 use Rattle.files.specs.Layout.{COUNT_AT, WIDTH_AT, HEADER, EVENT_BYTES}
 
 -- "A file is a count (u16, at most 2,048), body width (u16, 16), an array of kind bytes, then an array of bodies."
@@ -66,20 +65,6 @@ writing_refusal events room = first ((ltb EVENTS events ⇒ 5) ∷ (ltb room (si
 unfoldable pub copying_refusal : List ℕ → ℕ → ℕ
 copying_refusal file room =
     first ((nonzero (refusal file) ⇒ refusal file) ∷ (ltb room (size (count file)) ⇒ 5) ∷ [])
-
--- the answer with a refusal's number, or 0, and the bytes written: "reports the bytes written as its quantity"
-abbrev pub answer : ℕ → ℕ → Written
-answer zero bytes = Written.Done bytes
-answer (suc n) bytes = Written.Refused (suc n)
-
--- an answer's refusal, or 0, and its quantity
-abbrev pub number_of : Written → ℕ
-number_of (Written.Done bytes) = 0
-number_of (Written.Refused n) = n
-
-abbrev pub quantity_of : Written → ℕ
-quantity_of (Written.Done bytes) = bytes
-quantity_of (Written.Refused n) = 0
 
 -- the page after the call: written where the refusal is 0, "and keeps the bytes after the last body"; else as it was
 abbrev pub page_after : ℕ → List ℕ → List ℕ → List ℕ

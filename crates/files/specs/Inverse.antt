@@ -1,21 +1,23 @@
 -- Reading and writing event files are inverse: a file that is written passes and is read as the events that were
 -- written, and a file that passes is, byte for byte, the one that its events write.
-use Rattle.std.specs.Prelude.{ℕ, zero, suc, ◌*◌, ◌≤◌, ◌≡◌, refl, List, [], ◌∷◌, ◌++◌, map, eqb, length, take}
-use Rattle.std.proofs.Common.{arith, ap, ap₂, sym, ◌∙◌, length-append, take_at, drop_at, drop-drop, le-ltb, eq-eqb}
+use Rattle.std.specs.Prelude.{ℕ, zero, suc, ◌*◌, ◌≤◌, ◌≡◌, refl, List, [], ◌∷◌, ◌++◌, map, true, not, eqb, ltb, length, take, drop}
+use Rattle.std.proofs.Common.{arith, ap, ap₂, sym, ◌∙◌, length-append, take_at, drop_at, drop-drop, le-ltb, le-leb, eq-eqb}
 use Rattle.std.proofs.Math.Dec.{eqb-suc-zero}
 use Rattle.std.proofs.lemmas.List.{length-map}
 use Rattle.laws.specs.Limits.{EVENTS}
 use Rattle.laws.specs.Lists.{All, each, only}
-use Rattle.laws.specs.Refusals.{first, first_past}
+use Rattle.laws.specs.Asked.{both}
+use Rattle.laws.specs.Refusals.{◌⇒◌, first, first_past}
+use Rattle.laws.specs.Answers.{REFUSALS, number_in, answer, quantity_of, answer_number, listed, first_listed}
 use Rattle.laws.specs.Words.{word16_at}
-use Rattle.laws.specs.WordLaws.{word16_bytes}
+use Rattle.laws.specs.WordLaws.{nonzero, word16_bytes}
 use Rattle.events.specs.declared.Event.{Event}
 use Rattle.events.specs.Layout.{BODY, marks_of}
 use Rattle.events.specs.Body.{kind_of, fields_of, body, body_of, Fits}
 use Rattle.events.specs.Spare.{masked_clear}
 use Rattle.events.specs.Inverse.{length_body, told, read_event}
 use Rattle.files.specs.Layout.{HEADER, WIDTH_AT}
-use Rattle.files.specs.File.{count, size, kinds_in, bodies_in, paired, events_of, reasons, checks, refusal, file_of, answer, number_of, quantity_of, ReadsBack}
+use Rattle.files.specs.File.{count, size, kinds_in, bodies_in, paired, events_of, reasons, checks, refusal, file_of, writing_refusal, copying_refusal, ReadsBack}
 
 -- ---- lengths
 
@@ -87,10 +89,32 @@ page_reads_back es rest h fit = record {
   read = ap events_of (written_front es rest) ∙ written_read es h fit;
 }
 
--- an answer has the refusal's number, and the bytes written as its quantity where there is none
-pub answer_number_lem : (n bytes : ℕ) → number_of (answer n bytes) ≡ n
-answer_number_lem zero bytes = refl
-answer_number_lem (suc n) bytes = refl
+-- an answer has the refusal's number, which is one of the papers' list, and the bytes written as its quantity where there is none
+pub answer_number_lem : (n bytes : ℕ) → n ≤ REFUSALS → number_in (answer n bytes) ≡ n
+answer_number_lem n bytes h = answer_number n bytes h
+
+pub writing_number : (events room bytes : ℕ) → number_in (answer (writing_refusal events room) bytes) ≡ writing_refusal events room
+unfolding writing_refusal
+writing_number events room bytes =
+    answer_number (writing_refusal events room) bytes (first_listed ((ltb EVENTS events ⇒ 5) ∷ (ltb room (size events) ⇒ 5) ∷ []) refl)
+
+checks_listed : (kinds bodies : List ℕ) → listed (checks kinds bodies) ≡ true
+checks_listed [] bodies = refl
+checks_listed (kind ∷ kinds) bodies = checks_listed kinds (drop BODY bodies)
+
+refusal_listed : (file : List ℕ) → refusal file ≤ REFUSALS
+unfolding refusal
+refusal_listed file =
+    let n = count file in
+    first_listed
+    ((ltb EVENTS n ⇒ 5) ∷ (not (eqb (word16_at file WIDTH_AT) BODY) ⇒ 5) ∷ (not (eqb (length file) (size n)) ⇒ 5) ∷ checks (kinds_in file n) (bodies_in file n))
+    (checks_listed (kinds_in file n) (bodies_in file n))
+
+pub copying_number : (file : List ℕ) (room bytes : ℕ) → number_in (answer (copying_refusal file room) bytes) ≡ copying_refusal file room
+unfolding copying_refusal
+copying_number file room bytes =
+    answer_number (copying_refusal file room) bytes
+    (first_listed ((nonzero (refusal file) ⇒ refusal file) ∷ (ltb room (size (count file)) ⇒ 5) ∷ []) (both _ true (le-leb (refusal file) REFUSALS (refusal_listed file)) refl))
 
 pub answer_quantity : (n bytes : ℕ) → quantity_of (answer n bytes) ≡ only (eqb n 0) bytes
 answer_quantity zero bytes = refl

@@ -8,28 +8,15 @@ ghost use Rattle.laws.specs.Limits.{EVENTS};
 ghost use Rattle.laws.specs.Lists.{All, each};
 ghost use Rattle.laws.specs.Parts.{padded};
 ghost use Rattle.laws.specs.Refusals;
+ghost use Rattle.laws.specs.Answers.{answer, number_in, quantity_of};
 ghost use Rattle.events.specs.declared.Event.TheVariants as event;
 ghost use Rattle.events.specs.Layout.{BODY};
 ghost use Rattle.events.specs.Body.{Fits, body_of, kind_of};
 ghost use Rattle.files.specs.Layout.{HEADER};
-ghost use Rattle.files.specs.File.{ReadsBack, answer, bodies_in, checks, copying_refusal, count, events_of, file_of, kinds_in, number_of, page_after, quantity_of, reasons, refusal, size, writing_refusal};
+ghost use Rattle.files.specs.File.{ReadsBack, bodies_in, checks, copying_refusal, count, events_of, file_of, kinds_in, page_after, reasons, refusal, size, writing_refusal};
 
 use events::{BODY, Event, KINDS};
-use laws::EVENTS;
-
-// What writing answers: the bytes written, or the number of the refusal.
-#[derive(Drop)]
-pub enum Written {
-    Done(u32),
-    Refused(u8),
-}
-
-// Refusals of document 01, 'Why a call is turned down'.
-const FILE_SHAPE: u8 = 5;
-
-const KIND: u8 = 6;
-
-const SPARE: u8 = 7;
+use laws::{EVENTS, Refusal};
 
 // The layout of a file, as `specs/Layout.antt` has it: where the two words of the header stand, how long it is, and the bytes
 // of an event, its kind byte and its body.
@@ -55,16 +42,8 @@ pub fn event_count(file: &[u8]) -> u16
 pub fn events_in(file: &[u8]) -> u16
     ensures { result ≡ length (events_of file.now) }
 {
-    let count = event_count(file);
-    let length = file.len();
-    if length < HEADER {
-        return 0;
-    }
-    let kinds = length - HEADER;
-    if kinds < count as usize {
-        return kinds as u16;
-    }
-    count
+    let kinds = file.len().saturating_sub(HEADER);
+    kinds.min(event_count(file) as usize) as u16
 }
 
 // The event at an index, counted from 0; past the last event, a close. Of a file that is refused it reads what is
@@ -85,54 +64,46 @@ pub fn event_at(file: &[u8], i: usize) -> Event
     events::event_from(kind, events::fields_at(body, 0))
 }
 
-// Refusal 6 or 7 of the event whose kind byte and body stand at two places, or 0.
-fn event_refusal(file: &[u8], place: usize, at: usize) -> u8
+// Refusal 6 or 7 of the event whose kind byte and body stand at two places.
+fn event_refusal(file: &[u8], place: usize, at: usize) -> Result<(), Refusal>
     requires { at + BODY ≤ length file.now }
-    ensures { result ≡ Refusals.first (reasons (get_or file.now place 0) (take BODY (drop at file.now))) }
+    ensures { number_in result ≡ Refusals.first (reasons (get_or file.now place 0) (take BODY (drop at file.now))) }
 {
     let kind = events::byte_at(file, place);
-    if kind < 1 {
-        return KIND;
-    }
-    if KINDS < kind {
-        return KIND;
+    if !(1..=KINDS).contains(&kind) {
+        return Err(Refusal::UnknownKind);
     }
     if events::body_spare_set(kind, file, at) {
-        return SPARE;
+        return Err(Refusal::SpareByte);
     }
-    0
+    Ok(())
 }
 
-// Refusal 6 or 7 of the first event that has one, or 0.
-fn events_refusal(file: &[u8], count: usize) -> u8
+// Refusal 6 or 7 of the first event that has one.
+fn events_refusal(file: &[u8], count: usize) -> Result<(), Refusal>
     requires { (count ≤ EVENTS) × (length file.now ≡ size count) }
-    ensures { result ≡ Refusals.first (checks (kinds_in file.now count) (bodies_in file.now count)) }
+    ensures { number_in result ≡ Refusals.first (checks (kinds_in file.now count) (bodies_in file.now count)) }
 {
-    let mut i: usize = 0;
-    while i < count {
-        let refusal = event_refusal(file, HEADER + i, HEADER + count + BODY * i);
-        if refusal != 0 {
-            return refusal;
-        }
-        i += 1;
+    for i in 0..count {
+        event_refusal(file, HEADER + i, HEADER + count + BODY * i)?;
     }
-    0
+    Ok(())
 }
 
-// The refusal of a file: 5, 6, 7, or 0 where it passes.
-pub fn file_refusal(file: &[u8]) -> u8
-    ensures { result ≡ refusal file.now }
+// The refusal of a file, 5, 6 or 7.
+pub fn file_refusal(file: &[u8]) -> Result<(), Refusal>
+    ensures { number_in result ≡ refusal file.now }
 {
     let count = event_count(file) as usize;
     if EVENTS < count {
-        return FILE_SHAPE;
+        return Err(Refusal::FileShape);
     }
     let width = events::word16_at(file, WIDTH_AT);
     if width != WIDTH {
-        return FILE_SHAPE;
+        return Err(Refusal::FileShape);
     }
     if file.len() != HEADER + EVENT_BYTES * count {
-        return FILE_SHAPE;
+        return Err(Refusal::FileShape);
     }
     events_refusal(file, count)
 }
@@ -144,89 +115,69 @@ fn closes() -> [Event; EVENTS]
     [Event::Close; EVENTS]
 }
 
-// How many events are read: as many as the file says, and no more than the array has places for.
-fn events_read(file: &[u8]) -> usize
-    ensures { result ≡ min (count file.now) EVENTS }
-{
-    let count = event_count(file) as usize;
-    if EVENTS < count {
-        return EVENTS;
-    }
-    count
-}
-
 // The events of a file; the places past the last one hold a close. `events_in` says how many there are.
 pub fn read_events(file: &[u8]) -> [Event; EVENTS]
     ensures { result ≡ padded event.Close EVENTS (events_of file.now) }
 {
     let mut events = closes();
-    let stop = events_read(file);
-    let mut i: usize = 0;
-    while i < stop {
+    let stop = EVENTS.min(event_count(file) as usize);
+    for i in 0..stop {
         let event = event_at(file, i);
         events[i] = event;
-        i += 1;
     }
     events
 }
 
-// The kind bytes of the first events, after the count and the width.
-fn put_kinds(page: &mut [u8], events: [Event; EVENTS], count: usize)
-    requires { (count ≤ EVENTS) × (HEADER + count ≤ length page.old) }
-    ensures { page.new ≡ sets page.old HEADER (map kind_of (take count events)) }
+// The kind bytes of the events, after the count and the width.
+fn put_kinds(page: &mut [u8], events: &[Event])
+    requires { HEADER + length events.now ≤ length page.old }
+    ensures { page.new ≡ sets page.old HEADER (map kind_of events.now) }
 {
-    let mut i: usize = 0;
-    while i < count {
-        let event = events[i];
-        page[HEADER + i] = events::kind_of(event);
-        i += 1;
+    for (i, event) in events.iter().enumerate() {
+        page[HEADER + i] = events::kind_of(*event);
     }
 }
 
-// The bodies of the first events, after the kind bytes.
-fn put_bodies(page: &mut [u8], events: [Event; EVENTS], count: usize)
-    requires { (count ≤ EVENTS) × (size count ≤ length page.old) }
-    ensures page_after { page.new ≡ sets page.old (HEADER + count) (each body_of (take count events)) }
-    ensures all { All Fits (take count events) }
+// The bodies of the events, after the kind bytes.
+fn put_bodies(page: &mut [u8], events: &[Event])
+    requires { (length events.now ≤ EVENTS) × (size (length events.now) ≤ length page.old) }
+    ensures page_after { page.new ≡ sets page.old (HEADER + length events.now) (each body_of events.now) }
+    ensures all { All Fits events.now }
 {
-    let mut i: usize = 0;
-    while i < count {
-        let event = events[i];
-        events::put_body(page, HEADER + count + BODY * i, events::fields_of(event));
-        i += 1;
+    let bodies = HEADER + events.len();
+    for (i, event) in events.iter().enumerate() {
+        events::put_body(page, bodies + BODY * i, events::fields_of(*event));
     }
 }
 
-// The file of the first `count` events, written at the page's start. The bytes after the last body are kept, and a
+// The file of the first `count` events, written at the page's start. (The array and its count stay two: clause `value` refuses a count that the array has no
+// places for, and a slice could not be made of it.) The bytes after the last body are kept, and a
 // call that is refused changes none. The bytes that it reports as written pass, and are read as these events.
-pub fn write_file(events: [Event; EVENTS], count: usize, page: &mut [u8]) -> Written
+pub fn write_file(events: [Event; EVENTS], count: usize, page: &mut [u8]) -> Result<u32, Refusal>
     ensures value { result ≡ answer (writing_refusal count (length page.old)) (size count) }
     ensures page_after { page.new ≡ page_after (writing_refusal count (length page.old)) (file_of (take count events)) page.old }
-    ensures reads_back { number_of result ≡ 0 → ReadsBack (take count events) (take (quantity_of result) page.new) }
+    ensures reads_back { number_in result ≡ 0 → ReadsBack (take count events) (take (quantity_of result) page.new) }
 {
     if EVENTS < count {
-        return Written::Refused(FILE_SHAPE);
+        return Err(Refusal::FileShape);
     }
     let bytes = HEADER + EVENT_BYTES * count;
     if page.len() < bytes {
-        return Written::Refused(FILE_SHAPE);
+        return Err(Refusal::FileShape);
     }
     events::put16(page, COUNT_AT, count as u16);
     events::put16(page, WIDTH_AT, WIDTH);
-    put_kinds(page, events, count);
-    put_bodies(page, events, count);
-    Written::Done(bytes as u32)
+    put_kinds(page, &events[..count]);
+    put_bodies(page, &events[..count]);
+    Ok(bytes as u32)
 }
 
 // A file that passes, read and written again: the page then begins with the same bytes.
-pub fn copy_file(file: &[u8], page: &mut [u8]) -> Written
+pub fn copy_file(file: &[u8], page: &mut [u8]) -> Result<u32, Refusal>
     ensures value { result ≡ answer (copying_refusal file.now (length page.old)) (length file.now) }
     ensures page_after { page.new ≡ page_after (copying_refusal file.now (length page.old)) file.now page.old }
 {
-    let refusal = file_refusal(file);
-    if refusal != 0 {
-        return Written::Refused(refusal);
-    }
+    file_refusal(file)?;
     let count = event_count(file) as usize;
     write_file(read_events(file), count, page)
 }

@@ -1,5 +1,7 @@
 -- The claim about histories: after every list of the calls from any opened book, refused ones included, in place or by value, with sheets of
 -- any length.
+use Rattle.std.proofs.Common.{Option, Ok, Err, ℤ}
+use Rattle.plain.specs.declared.Latest.{Latest}
 use Prim.Native.Nat.{ℕ, suc, ◌+◌, ◌-◌, ◌≤◌, ◌<◌}
 use native.Mathlib.Omega.{arith}
 use mathlib.Core.Path.{◌≡◌, refl, ap, sym, ◌∙◌, subst}
@@ -18,7 +20,6 @@ use Rattle.events.specs.declared.Award as asked
 use Rattle.events.specs.declared.Event.{Event}
 use Rattle.events.specs.declared.Event.TheVariants as event
 use Rattle.plain.specs.declared.Opening.{Opening}
-use Rattle.plain.specs.declared.LatestPrice.{LatestPrice}
 use Rattle.plain.specs.declared.Position.{Position}
 use Rattle.plain.specs.declared.Award.{Award}
 use Rattle.plain.specs.declared.Piece.{Piece}
@@ -44,12 +45,11 @@ use Rattle.plain.proofs.Accounts.{done_places, new_places, next_balance}
 use Rattle.plain.proofs.Claim as told
 use Rattle.pieces.specs.Sheet.{pieces_of, sheet_with}
 use Rattle.pieces.proofs.Cells.{length_pieces}
-use Rattle.kept.specs.View.{answer, number_of, quantity_of}
+use Rattle.laws.specs.Answers.{answer, number_in, quantity_of}
 use Rattle.machine.specs.View.{Called}
 use Rattle.machine.specs.Answers.{answered_number, answered_quantity}
-use Rattle.reading.specs.declared.PositionAnswer.TheVariants.{Found, Refused}
-use Rattle.reading.specs.declared.AwardAnswer.TheVariants as award
-use Rattle.reading.specs.declared.PriceAnswer.TheVariants as price
+use Rattle.laws.specs.declared.Refusal.{Refusal}
+use Rattle.laws.specs.declared.Refusal.TheVariants.{NotRegistered, NotThere}
 use Rattle.reading.specs.Reading.{position_answer, award_answer, price_answer, signed, balance_answer}
 use Rattle.book.specs.View as whole
 use Rattle.book.proofs.Returns as book
@@ -68,14 +68,14 @@ called (lent {b = b} {after = after} {o = o} k) = book.called b after o _ _ k.re
 -- The machine's calls follow the plain book
 
 module _ {s : Stand} {c : Call} {r : Return} (k : Answers s c r) where
-  number : number_of r.outcome ≡ refusal (view s) c
-  number = answered_number r.outcome (refusal (view s) c) (quantity (view s) c) (called k).returned.outcome
+  number : number_in r.outcome ≡ refusal (view s) c
+  number = answered_number (view s) c r.outcome (called k).returned.outcome
 
   reported : quantity_of r.outcome ≡ quantity (view s) c
   reported = answered_quantity (view s) c r.outcome (called k).returned.outcome
 
   -- a call that answers with a number is refused
-  turned_down : number_of r.outcome ≢ 0 → refusal (view s) c ≢ 0
+  turned_down : number_in r.outcome ≢ 0 → refusal (view s) c ≢ 0
   turned_down e z = e (number ∙ z)
 
 pub agrees : {s : Stand} {cs : List Call} {rs : List Return} → Runs s cs rs → view (last s rs) ≡ run (view s) cs
@@ -136,7 +136,7 @@ priced_once : (s : Stand) (c : Call) (r : Return) → Sound (view s) → Answers
 priced_once s c r h k x e is = rw (called k).returned.pieces (one_price (view s) c x (sym (number k) ∙ e) is)
 
 -- what the read answers to the number of a position that is there
-position_read : (b : plain.Book) (n : ℕ) → Within 1 (length b.positions) n → position_answer b n ≡ Found (position_of b n)
+position_read : (b : plain.Book) (n : ℕ) → Within 1 (length b.positions) n → position_answer b n ≡ Ok (position_of b n)
 unfolding within
 position_read b n w = rw (le-leb 1 n w.above, le-leb n (length b.positions) w.below)
 
@@ -183,12 +183,12 @@ answers_later xs new i =
     rw (nth_behind no_award xs new i, le-leb 1 (suc (length xs) + i) (omega arith), le-leb 1 (suc i) (omega arith)) (go (ask (leb (suc i) (length new))))
   where
     go : Said (leb (suc i) (length new))
-        → cond (leb (suc (length xs) + i) (length (xs ++ new))) (award.Found (get_or new i no_award)) (award.Refused 11) ≡ cond (leb (suc i) (length new)) (award.Found (get_or new i no_award)) (award.Refused 11)
+        → cond (leb (suc (length xs) + i) (length (xs ++ new))) (Ok (get_or new i no_award)) (Err NotThere) ≡ cond (leb (suc i) (length new)) (Ok (get_or new i no_award)) (Err NotThere)
     go (passed t) = rw (t, le-leb (suc (length xs) + i) (length (xs ++ new)) (omega (arith, leb-true (suc i) (length new) t, length-append xs new)))
     go (failed t) = rw (t, lt-leb (suc (length xs) + i) (length (xs ++ new)) (omega (arith, leb-false (suc i) (length new) t, length-append xs new)))
 
 -- the short of an award that was accepted is found
-award_short : (b : plain.Book) (c : Call) (a : asked.Award) → refusal b c ≡ 0 → event_of c ≡ event.Award a → position_answer b a.position ≡ Found (position_of b a.position)
+award_short : (b : plain.Book) (c : Call) (a : asked.Award) → refusal b c ≡ 0 → event_of c ≡ event.Award a → position_answer b a.position ≡ Ok (position_of b a.position)
 award_short b (call e sheet) a taken is =
     position_read b a.position (award_taken b a sheet (subst (λ (f : Event). refusal b (call f sheet) ≡ 0) is taken)).held
 
@@ -243,13 +243,13 @@ module _ {A Answer : Type 0} (found : A → Answer) (refused' : Answer) (same : 
       go (passed t) = (both_bounds 1 (length l) n t, same (plain.nth d l n) x (rw t at e))
       go (failed t) = absurd (apart x (rw t at e))
 
-position_found : (b : plain.Book) (n : ℕ) (p : Position) → position_answer b n ≡ Found p → (Within 1 (length b.positions) n) × (position_of b n ≡ p)
+position_found : (b : plain.Book) (n : ℕ) (p : Position) → position_answer b n ≡ Ok p → (Within 1 (length b.positions) n) × (position_of b n ≡ p)
 position_found b n p e =
-    read_found Found (Refused 11) (λ x y k. cc) (λ x k. let z : ◌≡◌ {A = ℕ} 0 1 = cc in absurd (omega arith)) no_position b.positions n p e
+    read_found Ok (Err NotThere) (λ x y k. cc) (λ x k. let z : ◌≡◌ {A = ℕ} 0 1 = cc in absurd (omega arith)) no_position b.positions n p e
 
-award_found : (b : plain.Book) (n : ℕ) (x : Award) → award_answer b n ≡ award.Found x → plain.award_of b n ≡ x
+award_found : (b : plain.Book) (n : ℕ) (x : Award) → award_answer b n ≡ Ok x → plain.award_of b n ≡ x
 award_found b n x e =
-    (read_found award.Found (award.Refused 11) (λ x y k. cc) (λ x k. let z : ◌≡◌ {A = ℕ} 0 1 = cc in absurd (omega arith)) no_award b.awards n x e).1
+    (read_found Ok (Err NotThere) (λ x y k. cc) (λ x k. let z : ◌≡◌ {A = ℕ} 0 1 = cc in absurd (omega arith)) no_award b.awards n x e).1
 
 seller_pays_least : (s : Stand) (c : Call) (r : Return) (cs : List Call) (rs : List Return) → Sound (view s) → Answers s c r → Runs r.stand cs rs → SellerPaysLeast s c r cs rs
 seller_pays_least s c r cs rs h k runs a e is day all =
@@ -269,38 +269,38 @@ seller_pays_least s c r cs rs h k runs a e is day all =
     rw same (seller_pays (view s) c a cs h taken is (subst (λ (p : plain.Book). Confirmed (view s) p (run (next (view s) c) cs)) same there))
 
 -- the latest price of a security that is registered, and refusal 10 of any other
-read_latest : (b : plain.Book) (opening : Opening) (given : ℕ → LatestPrice) → b.opening ≡ opening → opening.register.count ≤ SECURITIES
+read_latest : (b : plain.Book) (opening : Opening) (given : ℕ → Option Latest) → b.opening ≡ opening → opening.register.count ≤ SECURITIES
     → ((security : ℕ) → Within 1 SECURITIES security → latest_price b security ≡ given security) → (security : ℕ)
-    → price_answer b security ≡ cond (within 1 opening.register.count security) (price.Found (given security)) (price.Refused 10)
+    → price_answer b security ≡ cond (within 1 opening.register.count security) (Ok (given security)) (Err NotRegistered)
 read_latest b opening given same few is security = rw same (go (ask (within 1 opening.register.count security)))
   where
     go : Said (within 1 opening.register.count security)
-        → cond (within 1 opening.register.count security) (price.Found (latest_price b security)) (price.Refused 10)
-        ≡ cond (within 1 opening.register.count security) (price.Found (given security)) (price.Refused 10)
+        → cond (within 1 opening.register.count security) (Ok (latest_price b security)) (Err NotRegistered)
+        ≡ cond (within 1 opening.register.count security) (Ok (given security)) (Err NotRegistered)
     go (passed t) =
         let w = both_bounds 1 opening.register.count security t in
         rw (t, is security (record { above = w.above; below = omega (arith, w.below, few) }))
     go (failed t) = rw t
 
 -- the balance of an account that is there
-read_balance : (b : plain.Book) (k : ℕ) → k < ACCOUNTS → balance_answer b k ≡ signed (balance b k)
+read_balance : (b : plain.Book) (k : ℕ) → k < ACCOUNTS → balance_answer b k ≡ Ok (signed (balance b k))
 read_balance b k h = rw (le-ltb 63 k (omega arith))
 
 booked : (s : Stand) (c : Call) (r : Return) → Placed (view s) → Answers s c r → Booked s c r
 booked s c r h a k l =
-    read_balance (view r.stand) k l ∙ ap signed (ap (λ (p : plain.Book). balance p k) (called a).returned.book ∙ next_balance (view s) c k h l)
+    read_balance (view r.stand) k l ∙ ap (λ (z : ℤ). Ok (signed z)) (ap (λ (p : plain.Book). balance p k) (called a).returned.book ∙ next_balance (view s) c k h l)
 
 -- The claim
 
 -- what every history begins with: the new plain book of what the register's bytes open a book with, on a register that passes
 begun : {bytes : List ℕ} {s : Stand} → Begins bytes s → view s ≡ new (opening_read bytes)
 unfolding whole.view
-begun (in_place {a = a} o z blank) = o.book a blank
-begun (as_one_value o z) = o.book
+begun (in_place {a = a} o blank) = o.opened.book a blank
+begun (as_one_value o) = o.opened.book
 
 few_registered : {bytes : List ℕ} {s : Stand} → Begins bytes s → (opening_read bytes).register.count ≤ SECURITIES
-few_registered {bytes} (in_place o z blank) = (read_registered bytes (sym o.number ∙ z)).high
-few_registered {bytes} (as_one_value o z) = (read_registered bytes (sym o.number ∙ z)).high
+few_registered {bytes} (in_place o blank) = (read_registered bytes (sym o.number)).high
+few_registered {bytes} (as_one_value o) = (read_registered bytes (sym o.number)).high
 
 opened : (opening : Opening) (cs : List Call) → (run (new opening) cs).opening ≡ opening
 unfolding new
@@ -315,7 +315,7 @@ claim opening {s} {cs} {rs} e few runs =
     let placed : Placed (view s) = subst Placed (sym e) (new_places opening) in
     record {
       answered = all_same (λ r. r.outcome) (λ b c. answer (refusal b c) (quantity b c)) (λ s c r k. (called k).returned.outcome) (new opening) e runs;
-      numbers = all_same (λ r. number_of r.outcome) refusal (λ s c r k. number k) (new opening) e runs;
+      numbers = all_same (λ r. number_in r.outcome) refusal (λ s c r k. number k) (new opening) e runs;
       reported = all_same (λ r. quantity_of r.outcome) quantity (λ s c r k. reported k) (new opening) e runs;
       book = same;
       netted = rw (same, given) (λ i h. sym (claim.netted i) ∙ claim.tallied i h);
@@ -338,7 +338,7 @@ claim opening {s} {cs} {rs} e few runs =
       booked = every Placed placed_keeps booked placed runs;
       pays_least = onward Sound sound_keeps seller_pays_least sound runs;
       accounts = rw same claim.accounts';
-      balances = λ k h. read_balance (view (last s rs)) k h ∙ ap signed (ap (λ (p : plain.Book). balance p k) same ∙ claim.accounts' k h);
+      balances = λ k h. read_balance (view (last s rs)) k h ∙ ap (λ (z : ℤ). Ok (signed z)) (ap (λ (p : plain.Book). balance p k) same ∙ claim.accounts' k h);
       zero_sum = rw same claim.zero_sum;
       small = rw same claim.small;
       refused = every Sound sound_keeps (λ s c r h k. kept k) sound runs;

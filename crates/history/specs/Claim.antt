@@ -1,6 +1,6 @@
 -- Document 01, 'The plain book': "Demand 3 is a single claim about the list (also called a history), not one for each call." What it says of every
 -- list of calls from any opened book, refused ones included, in place or by value, with sheets of any length.
-use Rattle.std.specs.Prelude.{ℕ, suc, ◌+◌, ◌≤◌, ◌<◌, ◌≡◌, ◌≢◌, List, [], ◌∷◌, ◌++◌, map, true, cond, length, get_or, drop, pos, ◌+ℤ◌}
+use Rattle.std.specs.Prelude.{ℕ, suc, ◌+◌, ◌≤◌, ◌<◌, ◌≡◌, ◌≢◌, List, [], ◌∷◌, ◌++◌, map, true, cond, length, get_or, drop, pos, ◌+ℤ◌, Ok, Err, Result}
 use Rattle.std.proofs.Math.IntN.{sub_ℕ}
 use Rattle.laws.specs.Limits.{ACCOUNTS, MEMBERS}
 use Rattle.laws.specs.Asked.{Within, within}
@@ -27,11 +27,9 @@ use Rattle.plain.specs.Invariants.{DueLong, NeedsPrice, GivenToday}
 use Rattle.plain.specs.Sound.{Small}
 use Rattle.plain.specs.Claim.{OnePrice, NettedByKind}
 use Rattle.pieces.specs.Sheet.{sheet_with}
-use Rattle.kept.specs.View.{answer, number_of, quantity_of}
-use Rattle.reading.specs.declared.PositionAnswer.TheVariants.{Found}
-use Rattle.reading.specs.declared.AwardAnswer.{AwardAnswer}
-use Rattle.reading.specs.declared.AwardAnswer.TheVariants as award
-use Rattle.reading.specs.declared.PriceAnswer.TheVariants as price
+use Rattle.laws.specs.Answers.{answer, number_in, quantity_of}
+use Rattle.laws.specs.declared.Refusal.{Refusal}
+use Rattle.laws.specs.declared.Refusal.TheVariants.{NotRegistered, NotThere}
 use Rattle.reading.specs.Reading.{position_answer, award_answer, price_answer, signed, balance_answer}
 use Rattle.history.specs.Runs.{Stand, view, Sheet, no_sheet, number_sheet, piece_sheet, handed_back, Return, pieces_on, last, sheets}
 
@@ -51,15 +49,15 @@ pub record Dealt (s : Stand) (c : Call) (r : Return) : Type 0 where
   pub longs : All (λ x. DueLong (view s) (position_of (view s) (short_of (view s) (event_of c))).security x.long) (pieces_on r)
 
 abbrev pub DealtOut : Stand → Call → Return → Type 0
-DealtOut s c r = number_of r.outcome ≡ 0 → is_discharge (event_of c) ≡ true → Dealt s c r
+DealtOut s c r = number_in r.outcome ≡ 0 → is_discharge (event_of c) ≡ true → Dealt s c r
 
 -- of an attempt or cash settlement that was accepted: the latest price of its security was given today
 abbrev pub Fresh : Stand → Call → Return → Type 0
-Fresh s c r = (n : ℕ) → number_of r.outcome ≡ 0 → NeedsPrice (event_of c) n → GivenToday (view s) (position_of (view s) n).security
+Fresh s c r = (n : ℕ) → number_in r.outcome ≡ 0 → NeedsPrice (event_of c) n → GivenToday (view s) (position_of (view s) n).security
 
 -- of a cash settlement that was accepted: all its pieces have one price, the highest term of the rule
 abbrev pub PricedOnce : Stand → Call → Return → Type 0
-PricedOnce s c r = (x : Cash) → number_of r.outcome ≡ 0 → event_of c ≡ event.Cash x → OnePrice (view s) x.position (pieces_on r)
+PricedOnce s c r = (x : Cash) → number_in r.outcome ≡ 0 → event_of c ≡ event.Cash x → OnePrice (view s) x.position (pieces_on r)
 
 -- "Both fall by the quantity, one piece of manner paired and 0 cents is handed out": of a pair-off that was accepted, its two positions as the public read answers
 -- them before and after it, and what its sheet holds
@@ -68,10 +66,10 @@ pub record PairRead (s : Stand) (x : PairOff) (r : Return) : Type 0 where
   pub long : Position
   pub short_after : Position
   pub long_after : Position
-  pub found_short : position_answer (view s) x.short ≡ Found short
-  pub found_long : position_answer (view s) x.long ≡ Found long
-  pub found_short_after : position_answer (view r.stand) x.short ≡ Found short_after
-  pub found_long_after : position_answer (view r.stand) x.long ≡ Found long_after
+  pub found_short : position_answer (view s) x.short ≡ Ok short
+  pub found_long : position_answer (view s) x.long ≡ Ok long
+  pub found_short_after : position_answer (view r.stand) x.short ≡ Ok short_after
+  pub found_long_after : position_answer (view r.stand) x.long ≡ Ok long_after
   pub piece : pieces_on r ≡ paired_piece x ∷ []
   pub reported : quantity_of r.outcome ≡ x.quantity
   -- the two sides are one member's, in business of one kind; that the long is a due one of the security is said of every discharge
@@ -84,17 +82,17 @@ pub record PairRead (s : Stand) (x : PairOff) (r : Return) : Type 0 where
   pub unpaid : (k : ℕ) → balance_answer (view r.stand) k ≡ balance_answer (view s) k
 
 abbrev pub PairsOff : Stand → Call → Return → Type 0
-PairsOff s c r = (x : PairOff) → number_of r.outcome ≡ 0 → event_of c ≡ event.PairOff x → PairRead s x r
+PairsOff s c r = (x : PairOff) → number_in r.outcome ≡ 0 → event_of c ≡ event.PairOff x → PairRead s x r
 
 -- what the public read answers to a number, of these awards
-abbrev pub answer_in : List Award → ℕ → AwardAnswer
-answer_in awards n = cond (there awards n) (award.Found (nth no_award awards n)) (award.Refused 11)
+abbrev pub answer_in : List Award → ℕ → Result Award Refusal
+answer_in awards n = cond (there awards n) (Ok (nth no_award awards n)) (Err NotThere)
 
 -- of an award for short n that was accepted: the awards that the public read answers after it, beyond those that it answered before, are the cheapest
 -- cover of what it answered to be open of the short
 pub record CoverRead (s : Stand) (n : ℕ) (r : Return) : Type 0 where
   pub short : Position
-  pub found : position_answer (view s) n ≡ Found short
+  pub found : position_answer (view s) n ≡ Ok short
   pub awards : List Award
   pub earlier : (i : ℕ) → i ≤ length (view s).awards → award_answer (view r.stand) i ≡ award_answer (view s) i
   pub later : (i : ℕ) → award_answer (view r.stand) (suc (length (view s).awards) + i) ≡ answer_in awards (suc i)
@@ -102,18 +100,18 @@ pub record CoverRead (s : Stand) (n : ℕ) (r : Return) : Type 0 where
   pub cheapest : Cheapest short.unsettled (view s).auction.offers awards
 
 abbrev pub CheapestRead : Stand → Call → Return → Type 0
-CheapestRead s c r = (a : asked.Award) → number_of r.outcome ≡ 0 → event_of c ≡ event.Award a → CoverRead s a.position r
+CheapestRead s c r = (a : asked.Award) → number_in r.outcome ≡ 0 → event_of c ≡ event.Award a → CoverRead s a.position r
 
 -- award n is confirmed, as the public read answers
 pub record ReadConfirmed (b : Book) (n : ℕ) : Type 0 where
   pub award' : Award
-  pub found : award_answer b n ≡ award.Found award'
+  pub found : award_answer b n ≡ Ok award'
   pub confirmed : award'.confirmed ≡ true
 
 -- of an award that was accepted: once the calls that follow have confirmed, on the same day, all that it awarded, the seller was charged least
 abbrev pub SellerPaysLeast : Stand → Call → Return → List Call → List Return → Type 0
 SellerPaysLeast s c r cs rs =
-    (a : asked.Award) → number_of r.outcome ≡ 0 → event_of c ≡ event.Award a → (view (last r.stand rs)).day ≡ (view s).day
+    (a : asked.Award) → number_in r.outcome ≡ 0 → event_of c ≡ event.Award a → (view (last r.stand rs)).day ≡ (view s).day
     → ((n : ℕ) → Within (suc (length (view s).awards)) (length (view r.stand).awards) n → ReadConfirmed (view (last r.stand rs)) n)
     → PaysLeast (view s) a.position (added (view s) (view r.stand)) (confirmations_of (view s) (view r.stand) cs)
 
@@ -121,11 +119,11 @@ SellerPaysLeast s c r cs rs =
 abbrev pub Booked : Stand → Call → Return → Type 0
 Booked s c r =
     (k : ℕ) → k < ACCOUNTS
-    → balance_answer (view r.stand) k ≡ signed (balance (view s) k +ℤ sub_ℕ (credit_of k (charged (view s) c)) (debit_of k (charged (view s) c)))
+    → balance_answer (view r.stand) k ≡ Ok (signed (balance (view s) k +ℤ sub_ℕ (credit_of k (charged (view s) c)) (debit_of k (charged (view s) c))))
 
 -- "A refused call changes nothing": core and tables are the very same
 abbrev pub Kept : Stand → Call → Return → Type 0
-Kept s c r = number_of r.outcome ≢ 0 → (r.stand ≡ s) × (pieces_on r ≡ []) × (quantity_of r.outcome ≡ 0)
+Kept s c r = number_in r.outcome ≢ 0 → (r.stand ≡ s) × (pieces_on r ≡ []) × (quantity_of r.outcome ≡ 0)
 
 -- what a call's sheet holds as it returned, with so many pieces: "The pieces fill the first places of a lent sheet ..; later places keep their
 -- content"
@@ -145,13 +143,13 @@ AsAtEntry (handed_back xs) = xs ≡ []
 pub record Filled (s : Stand) (c : Call) (r : Return) : Type 0 where
   pub count : r.count ≡ length (pieces (view s) c)
   pub filled : Holds r.sheet r.count (pieces (view s) c)
-  pub kept : number_of r.outcome ≢ 0 → AsAtEntry r.sheet
+  pub kept : number_in r.outcome ≢ 0 → AsAtEntry r.sheet
 
 -- After the list of calls cs from where the history s begins, on a book that was opened so, with what each returned
 pub record History (opening : Opening) (s : Stand) (cs : List Call) (rs : List Return) : Type 0 where
   -- 1. each call's answer, its refusal number and its quantity are the plain book's, and the book is the plain book's
   pub answered : map (λ r. r.outcome) rs ≡ along (λ b c. answer (refusal b c) (quantity b c)) (new opening) cs
-  pub numbers : map (λ r. number_of r.outcome) rs ≡ refusals (new opening) cs
+  pub numbers : map (λ r. number_in r.outcome) rs ≡ refusals (new opening) cs
   pub reported : map (λ r. quantity_of r.outcome) rs ≡ quantities (new opening) cs
   pub book : view (last s rs) ≡ run (new opening) cs
   -- 2. each position's netted quantity, worked out from the accepted trades and closes of the list alone, is delivered, bought in, settled in cash, paired off
@@ -160,7 +158,7 @@ pub record History (opening : Opening) (s : Stand) (cs : List Call) (rs : List R
       → (get_or (formed_by opening (accepted_events (new opening) cs)) i no_position).netted
       ≡ sum (λ m. taken_by m (suc i) (sheets rs)) manners + (get_or (view (last s rs)).positions i no_position).unsettled
   -- the same of what the public read reports of a position
-  pub open_units : (n : ℕ) (p : Position) → position_answer (view (last s rs)) n ≡ Found p
+  pub open_units : (n : ℕ) (p : Position) → position_answer (view (last s rs)) n ≡ Ok p
       → (nth no_position (formed_by opening (accepted_events (new opening) cs)) n).netted
       ≡ sum (λ m. taken_by m n (sheets rs)) manners + p.unsettled
   -- and all that makes a position comes from them alone: its member, kind, security, side, delivery day and reference price
@@ -171,7 +169,7 @@ pub record History (opening : Opening) (s : Stand) (cs : List Call) (rs : List R
   -- each security's latest price and the day on which it was given, as the public read reports them of any number, come from the accepted prices
   -- and closes of the list alone
   pub latest_prices : (security : ℕ) → price_answer (view (last s rs)) security
-      ≡ cond (within 1 opening.register.count security) (price.Found (latest_by opening (accepted_events (new opening) cs) security)) (price.Refused 10)
+      ≡ cond (within 1 opening.register.count security) (Ok (latest_by opening (accepted_events (new opening) cs) security)) (Err NotRegistered)
   -- and each accepted attempt or cash settlement goes by a price that was given on its day
   pub fresh : Each Fresh s cs rs
   -- 3. each call's pieces are the plain book's, in the same order; an accepted discharge's add up to the quantity that it reports
@@ -189,7 +187,7 @@ pub record History (opening : Opening) (s : Stand) (cs : List Call) (rs : List R
   pub accounts : (k : ℕ) → k < ACCOUNTS → balance (view (last s rs)) k ≡ sub_ℕ (credit_of k (all_charges (new opening) cs)) (debit_of k (all_charges (new opening) cs))
   -- the same of what the public read reports of an account
   pub balances : (k : ℕ) → k < ACCOUNTS
-      → balance_answer (view (last s rs)) k ≡ signed (sub_ℕ (credit_of k (all_charges (new opening) cs)) (debit_of k (all_charges (new opening) cs)))
+      → balance_answer (view (last s rs)) k ≡ Ok (signed (sub_ℕ (credit_of k (all_charges (new opening) cs)) (debit_of k (all_charges (new opening) cs))))
   -- and each call moves it by the call's own charges alone
   pub booked : Each Booked s cs rs
   -- and by the confirmations of what an award made, once there is one of each, its seller is charged least

@@ -1,18 +1,17 @@
 -- Document 01, 'The plain book': "Demand 3 is a single claim about the list (also called a history), not one for each call. Nobody else writes the book meanwhile. A call's pieces are read as it returns."
-use Rattle.std.specs.Prelude.{ℕ, ◌≡◌, List, [], ◌∷◌, length, take}
+use Rattle.std.specs.Prelude.{ℕ, ◌≡◌, List, [], ◌∷◌, length, take, Ok}
 use Rattle.laws.specs.Lists.{each}
 use Rattle.events.specs.declared.Event.{Event}
 use Rattle.plain.specs.declared.Piece.{Piece}
-use Rattle.plain.specs.declared.Outcome.{Outcome}
+use Rattle.laws.specs.Answers.{Outcome}
 use Rattle.plain.specs.Book as plain
 use Rattle.plain.specs.Calls.{Call, call}
 use Rattle.pieces.specs.Sheet.{pieces_of}
 use Rattle.machine.specs.declared.Core.{Core}
-use Rattle.calls.specs.declared.Opened as calls
 use Rattle.calls.specs.Opening as opening
-use Rattle.machine.specs.View.{Numbers, book_of, CalledBare, CalledOn, Blank}
+use Rattle.machine.specs.declared.Numbers.{Numbers}
+use Rattle.machine.specs.View.{book_of, CalledBare, CalledOn, Blank}
 use Rattle.book.specs.declared.Book.{Book}
-use Rattle.book.specs.declared.Opened as book
 use Rattle.book.specs.Opening as whole
 use Rattle.book.specs.View.{numbers_in, Returned}
 use Rattle.sheet.specs.Lent.{ReturnedOn}
@@ -90,5 +89,5 @@ pub record RunsTo (s : Stand) (cs : List Call) (z : Stand) : Type 0 where
 -- where a history begins: with what opening answered to the bytes of a register that it did not refuse; in place, with blank numbers for the
 -- tables, or as one value
 pub data Begins (bytes : List ℕ) : Stand → Type 0 where
-  in_place : {o : calls.Opened} {a : Numbers} → opening.OpenedOn bytes o → o.number ≡ 0 → Blank a → Begins bytes (record { core = o.core; numbers = a })
-  as_one_value : {o : book.Opened} → whole.OpenedOn bytes o → o.number ≡ 0 → Begins bytes (stand_of o.book)
+  in_place : {b : Core} {a : Numbers} → opening.OpenedOn bytes (Ok b) → Blank a → Begins bytes (record { core = b; numbers = a })
+  as_one_value : {b : Book} → whole.OpenedOn bytes (Ok b) → Begins bytes (stand_of b)

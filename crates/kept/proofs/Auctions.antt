@@ -1,4 +1,6 @@
 -- The calls on the auction, on the machine's book: their refusals are the plain book's, and what they change stands for what the plain book changes.
+use Rattle.std.proofs.Common.{Option}
+use Rattle.plain.specs.declared.Latest.{Latest}
 use Prim.Native.Nat.{ℕ, ◌+◌, ◌-◌, ◌*◌, ◌≤◌, ◌<◌}
 use native.Mathlib.Omega.{arith}
 use native.Mathlib.Numerals.{add-one}
@@ -21,7 +23,6 @@ use Rattle.events.specs.declared.Attempt.{Attempt}
 use Rattle.events.specs.declared.Offer.{Offer}
 use Rattle.events.specs.declared.Award.{Award}
 use Rattle.events.specs.declared.Event.TheVariants as event
-use Rattle.plain.specs.declared.LatestPrice.{LatestPrice}
 use Rattle.plain.specs.declared.Position.{Position}
 use Rattle.plain.specs.declared.Award as made
 use Rattle.plain.specs.Book as plain
@@ -132,7 +133,7 @@ module _ (b : Kept) (v : Valid b) (n : ℕ) (in_use : within 1 b.positions.count
   security_at p at =
       rw at (fair_at.security.above, omega (arith, fair_at.security.below, v.fits.register.high))
 
-module _ {p q : Position} {s t : Step} {l m : LatestPrice} {k j : ℕ} {x y : Bool} (day auction : ℕ) where
+module _ {p q : Position} {s t : Step} {l m : Option Latest} {k j : ℕ} {x y : Bool} (day auction : ℕ) where
   same_attempt : p ≡ q → s ≡ t → l ≡ m → k ≡ j → x ≡ y → first (attempt_reasons p day s auction l k x) ≡ first (attempt_reasons q day t auction m j y)
   same_attempt a c d e f = cc
 
@@ -147,7 +148,7 @@ attempt_missing b a f e =
 
 module _ (b : Kept) (a : Attempt) (v : Valid b) (in_use : within 1 b.positions.count a.position ≡ true)
     (p : Position) (at : p ≡ plain.position_of (view b) a.position)
-    (latest : LatestPrice) (looked : latest ≡ plain.looked_up (plain.nth plain.no_price (table.prices b.prices) p.security))
+    (latest : Option Latest) (looked : latest ≡ plain.looked_up (plain.nth plain.no_price (table.prices b.prices) p.security))
     (class : ℕ) (classed : class ≡ plain.nth 0 b.opening.register.classes p.security) where
   latest_is : latest ≡ plain.latest_price (view b) (plain.position_of (view b) a.position).security
   unfolding view
@@ -177,7 +178,7 @@ module _ (b : Kept) (a : Attempt) (v : Valid b) (in_use : within 1 b.positions.c
       ∙ ap (λ (k : ℕ). ceiling (plain.class_of (view b) (plain.position_of (view b) a.position).security) k) (price_is price told)
 
 -- an attempt that is accepted finds a place among the marks
-pub mark_room : (p : Position) (day : ℕ) (today : Step) (auction : ℕ) (latest : LatestPrice) (attempts : ℕ) (marked : Bool) → first (attempt_reasons p day today auction latest attempts marked) ≡ 0 → attempts < 16
+pub mark_room : (p : Position) (day : ℕ) (today : Step) (auction : ℕ) (latest : Option Latest) (attempts : ℕ) (marked : Bool) → first (attempt_reasons p day today auction latest attempts marked) ≡ 0 → attempts < 16
 unfolding attempt_reasons
 mark_room p day today auction latest attempts marked e =
     let h = none_applies (attempt_reasons p day today auction latest attempts marked) refl e in

@@ -1,5 +1,7 @@
 -- The discharges on the machine's book: their refusals are the plain book's, what they call asks only what holds of a valid book, and what they change stands for
 -- what the plain book changes.
+use Rattle.std.proofs.Common.{Option}
+use Rattle.plain.specs.declared.Latest.{Latest}
 use Prim.Native.Nat.{ℕ, ◌+◌, ◌-◌, ◌≤◌}
 use native.Mathlib.Omega.{arith}
 use mathlib.Core.Path.{◌≡◌, refl, ap, sym, ◌∙◌, subst}
@@ -20,7 +22,6 @@ use Rattle.events.specs.declared.Cash.{Cash}
 use Rattle.events.specs.declared.PairOff.{PairOff}
 use Rattle.events.specs.declared.Event.{Event}
 use Rattle.events.specs.declared.Event.TheVariants as event
-use Rattle.plain.specs.declared.LatestPrice.{LatestPrice}
 use Rattle.plain.specs.declared.Position.{Position}
 use Rattle.plain.specs.declared.Award.{Award}
 use Rattle.plain.specs.declared.Piece.{Piece}
@@ -352,7 +353,7 @@ module _ (b : Kept) (v : Valid b) (c : Cash) where
     cash_split =
         ap (λ (k : ℕ). first (lookup_reasons sheet k c.position ++ cash_reasons settled_short b.day.0 (step_on (plain.class_of (view b) settled_short.security) (b.day.0 - settled_short.settlement.0)) (plain.latest_price (view b) settled_short.security))) (positions_many b.positions v.fits.positions)
 
-    pub cash_number : (p : Position) (class : ℕ) (latest : LatestPrice) (today : Step) (number : ℕ)
+    pub cash_number : (p : Position) (class : ℕ) (latest : Option Latest) (today : Step) (number : ℕ)
         → first (lookup_reasons sheet b.positions.count c.position) ≡ 0 → p ≡ plain.nth plain.no_position (table.positions b.positions) c.position
         → class ≡ plain.nth 0 b.opening.register.classes p.security → latest ≡ plain.looked_up (plain.nth plain.no_price (table.prices b.prices) p.security)
         → today ≡ step_on class (b.day.0 - p.settlement.0) → number ≡ first (cash_reasons p b.day.0 today latest)

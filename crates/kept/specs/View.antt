@@ -4,8 +4,6 @@ use Rattle.laws.specs.declared.BusinessDay.{BusinessDay}
 use Rattle.register.specs.Accepted.{Registered}
 use Rattle.plain.specs.declared.Opening.{Opening}
 use Rattle.plain.specs.declared.Ledger.{Ledger}
-use Rattle.plain.specs.declared.Outcome.{Outcome}
-use Rattle.plain.specs.declared.Outcome.TheVariants as outcome
 use Rattle.plain.specs.Book as plain
 use Rattle.plain.specs.Sound.{Sound, Places, Balanced, Bound}
 use Rattle.tables.specs.declared.Prices.{Prices}
@@ -57,17 +55,3 @@ pub record Valid (b : Kept) : Type 0 where
   pub sound : Sound (view b)
   pub balanced : Balanced b.ledger
   pub bound : Bound (view b)
-
--- the outcome of a refusal number, 0 where there is none, and a quantity
-abbrev pub answer : ℕ → ℕ → Outcome
-answer zero q = outcome.Done q
-answer (suc n) q = outcome.Refused (suc n)
-
--- the refusal number of an outcome, 0 where there is none, and its quantity
-abbrev pub number_of : Outcome → ℕ
-number_of (outcome.Done q) = 0
-number_of (outcome.Refused n) = n
-
-abbrev pub quantity_of : Outcome → ℕ
-quantity_of (outcome.Done q) = q
-quantity_of (outcome.Refused n) = 0

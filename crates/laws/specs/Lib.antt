@@ -2,6 +2,7 @@ pub mod Limits
 pub mod Lists
 pub mod Asked
 pub mod Refusals
+pub mod Answers
 pub mod Words
 pub mod Listed
 pub mod Sums
@@ -15,3 +16,4 @@ pub mod Zips
 pub mod WordLaws
 pub mod Parts
 pub mod Masks
+pub mod Chains

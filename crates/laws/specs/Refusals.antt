@@ -1,5 +1,5 @@
 -- Why a call is turned down: a list of tests with their numbers, of which the first that applies counts.
-use Rattle.std.specs.Prelude.{ℕ, zero, suc, ◌+◌, ◌<◌, ◌≡◌, refl, List, [], ◌∷◌, ◌++◌, Bool, true, false, ltb}
+use Rattle.std.specs.Prelude.{ℕ, zero, suc, ◌+◌, ◌<◌, ◌≤◌, ◌≡◌, refl, List, [], ◌∷◌, ◌++◌, Bool, true, false, ltb}
 use Rattle.std.proofs.Common.{add-zero, arith, ap, sym, ◌∙◌, true≢false}
 use Rattle.std.proofs.lemmas.Bool.{false≢true}
 use Rattle.laws.specs.Lists.{range, each, every, All}
@@ -94,3 +94,15 @@ module _ (f : ℕ → List Reason) (h : (i : ℕ) → numbered (f i) ≡ true) w
   each_passes a (suc n) (suc i) e k =
       ap (λ (j : ℕ). first (f j)) (omega arith)
       ∙ each_passes (suc a) n i (first_neither (f a) (each f (range (suc a) n)) (h a) e).1 (omega arith)
+
+-- reasons whose numbers are at most k refuse with at most k
+abbrev pub AtMost : ℕ → List Reason → Type 0
+AtMost k rs = All (λ r. r.number ≤ k) rs
+
+pub choose_most : (t : Bool) (k n rest : ℕ) → n ≤ k → rest ≤ k → choose t n rest ≤ k
+choose_most true k n rest h l = h
+choose_most false k n rest h l = l
+
+pub first_most : (k : ℕ) (rs : List Reason) → AtMost k rs → first rs ≤ k
+first_most k [] h = omega arith
+first_most k (r ∷ rs) h = choose_most r.applies k r.number (first rs) h.0 (first_most k rs h.1)

@@ -1,5 +1,7 @@
-// Definitions and laws that more than one crate cites, the limits of document 01, and the two kinds of day. It has no function.
+// Definitions and laws that more than one crate cites, the limits of document 01, the two kinds of day, and the reasons that turn a call down.
 #![tactic(auto)]
+
+ghost use Rattle.std.specs.Prelude.{◌≡◌};
 
 // A business day by its number, counted from a book's day 1.
 // Document 01: "A business-day number is never taken for a calendar day."
@@ -10,6 +12,91 @@ pub struct BusinessDay(pub u16);
 // Only the crate `calendar` turns one kind of day into the other.
 #[derive(Clone, Copy)]
 pub struct CalendarDay(pub u16);
+
+// Why a call is turned down: document 01, 'Why a call is turned down', 1 to 31 in its order, and document 02 after them.
+#[derive(Clone, Copy, PartialEq, Eq)]
+pub enum Refusal {
+    WrongSize,
+    WrongClass,
+    WrongIsin,
+    RepeatedIsin,
+    FileShape,
+    UnknownKind,
+    SpareByte,
+    SmallSheet,
+    NoMember,
+    NotRegistered,
+    NotThere,
+    WrongQuantity,
+    WrongPrice,
+    SellerIsBuyer,
+    TradesFull,
+    Long,
+    OutsideWindow,
+    Auction,
+    NoPrice,
+    Attempted,
+    Failing,
+    AboveCeiling,
+    OffersFull,
+    NotEnough,
+    Confirmed,
+    NoNextDay,
+    InvalidDate,
+    WrongHolidays,
+    NoBusinessDay,
+    After2099,
+    ShortPage,
+    OldPrice,
+    WrongKind,
+    NotPairable,
+}
+
+// The number of a reason in the papers' list.
+impl From<Refusal> for u8 {
+    ghost use Rattle.laws.specs.Answers.{number};
+
+    ghost from_gives = { λ refusal n. n ≡ number refusal };
+
+    fn from(refusal: Refusal) -> u8 {
+        match refusal {
+            Refusal::WrongSize => 1,
+            Refusal::WrongClass => 2,
+            Refusal::WrongIsin => 3,
+            Refusal::RepeatedIsin => 4,
+            Refusal::FileShape => 5,
+            Refusal::UnknownKind => 6,
+            Refusal::SpareByte => 7,
+            Refusal::SmallSheet => 8,
+            Refusal::NoMember => 9,
+            Refusal::NotRegistered => 10,
+            Refusal::NotThere => 11,
+            Refusal::WrongQuantity => 12,
+            Refusal::WrongPrice => 13,
+            Refusal::SellerIsBuyer => 14,
+            Refusal::TradesFull => 15,
+            Refusal::Long => 16,
+            Refusal::OutsideWindow => 17,
+            Refusal::Auction => 18,
+            Refusal::NoPrice => 19,
+            Refusal::Attempted => 20,
+            Refusal::Failing => 21,
+            Refusal::AboveCeiling => 22,
+            Refusal::OffersFull => 23,
+            Refusal::NotEnough => 24,
+            Refusal::Confirmed => 25,
+            Refusal::NoNextDay => 26,
+            Refusal::InvalidDate => 27,
+            Refusal::WrongHolidays => 28,
+            Refusal::NoBusinessDay => 29,
+            Refusal::After2099 => 30,
+            Refusal::ShortPage => 31,
+            Refusal::OldPrice => 32,
+            Refusal::WrongKind => 33,
+            Refusal::NotPairable => 34,
+        }
+    }
+}
 
 // The limits of document 01, as `specs/Limits.antt` has them.
 pub const MEMBERS: u8 = 63;

@@ -1,8 +1,9 @@
 -- The fines of a close, by the numbers that they are worked out from.
 use Prim.Native.Nat.{ℕ, ◌+◌, ◌-◌, ◌*◌, ◌≤◌, ◌<◌}
 use native.Mathlib.Omega.{arith}
-use mathlib.Core.Path.{◌≡◌, refl, ap, sym}
+use mathlib.Core.Path.{◌≡◌, ap, sym}
 use mathlib.Core.List.{List, [], ◌∷◌}
+use Rattle.std.proofs.Math.Bool.{and-true, and-false}
 use mathlib.Core.Bool.{Bool, true, false, not, ◌&&◌}
 use lib.ListN.{length, get_or, drop, length-drop}
 use lib.Seq.{get_or-drop}
@@ -27,14 +28,6 @@ use Rattle.tables.specs.Late.{LateBefore}
 use Rattle.tables.specs.Columns.{price_named}
 use Rattle.tables.specs.declared.Prices.{Prices}
 use Rattle.ledger.specs.Parts.{award_fines_of}
-
-and_true : (a : Bool) → (a && true) ≡ a
-and_true true = refl
-and_true false = refl
-
-and_false : (a : Bool) → (a && false) ≡ false
-and_false true = refl
-and_false false = refl
 
 -- the class and the latest price of a security, as they are read at its place
 pub class_read : (classes : List ℕ) (s : ℕ) → 1 ≤ s → get_or classes (s - 1) 0 ≡ nth 0 classes s
@@ -65,7 +58,7 @@ module _
 -- a position that is not due is not fined
 pub late_not_due : (b : Book) (p : Position) → b.day < p.settlement.0 → late_fines b p ≡ []
 unfolding late_fines due
-late_not_due b p h = rw (lt-leb _ _ h, and_false)
+late_not_due b p h = rw (lt-leb _ _ h, and-false)
 
 -- so that none behind the place before which positions are due is fined
 pub rest_not_due : (b : Book) (ps : List Position) (place : ℕ) → LateBefore (b.day + 1) ps place → All (λ q. late_fines b q ≡ []) (drop place ps)
@@ -88,11 +81,11 @@ module _
   where
     pub late_free : fined ≡ false → late_fines b p ≡ []
     unfolding late_fines due
-    late_free e = rw (le-leb _ _ is_due, and_true, ← of, ← known, ← test, e)
+    late_free e = rw (le-leb _ _ is_due, and-true, ← of, ← known, ← test, e)
 
     pub late_fined : (value fine : ℕ) → fined ≡ true → value ≡ p.unsettled * latest → fine ≡ late_fine value → late_fines b p ≡ record { payer = p.member; payee = 0; cents = fine } ∷ []
     unfolding late_fines due
-    late_fined value fine e v f = rw (le-leb _ _ is_due, and_true, ← of, ← known, ← test, e, f, v)
+    late_fined value fine e v f = rw (le-leb _ _ is_due, and-true, ← of, ← known, ← test, e, f, v)
 
 -- where there is no award, the ledger is as its fines would leave it
 pub none_fined : (l : Ledger) (a : Awards) (p : Positions) (prices : Prices) (register : Register) → a.count ≡ 0 → l ≡ posted l (award_fines_of a p prices register)

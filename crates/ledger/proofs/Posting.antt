@@ -9,9 +9,11 @@ use Rattle.laws.specs.Integers.{place_le}
 use Rattle.rules.specs.declared.Amount.{Amount}
 use Rattle.rules.specs.declared.Amount.TheVariants.{Debit, Credit}
 use Rattle.plain.specs.declared.Ledger.{Ledger}
+use Rattle.plain.specs.Sound.{Booked}
 use Rattle.plain.specs.Charging.{Charge, raise, credited, debited, posted, charge}
-use Rattle.ledger.proofs.Posts.{room_then}
+use Rattle.ledger.proofs.Posts.{room_first, room_then}
 use Rattle.ledger.specs.Posts.{Room}
+use Rattle.ledger.specs.Tabled.{Chargeable}
 use Rattle.ledger.proofs.Elements.{ahead_at, ahead_end}
 
 pub record Posting (before : Ledger) (all ahead : List Charge) (l : Ledger) : Type 0 where
@@ -37,9 +39,14 @@ module _ (l : Ledger) (c : Charge) (ahead : List Charge) (h : Room l (c ∷ ahea
 pub posting_start : (l : Ledger) (all : List Charge) → Room l all → Posting l all all l
 posting_start l all h = record { same = refl; room = h }
 
-pub posting_one : (before : Ledger) (all ahead : List Charge) (c : Charge) (l : Ledger) → Posting before all (c ∷ ahead) l → Posting before all ahead (once l c)
-unfolding posted credited debited
-posting_one before all ahead c l h = record { same = h.same; room = room_then l (c ∷ []) ahead h.room }
+-- the next charge can be posted, and then those after it are still to come
+module _ (before : Ledger) (all ahead : List Charge) (c : Charge) (l : Ledger) (h : Posting before all (c ∷ ahead) l) where
+  pub next_chargeable : Booked c → Chargeable l c
+  next_chargeable booked = record { booked = booked; room = room_first l (c ∷ []) ahead h.room }
+
+  pub posting_one : Posting before all ahead (posted l (c ∷ []))
+  unfolding posted credited debited
+  posting_one = record { same = h.same; room = room_then l (c ∷ []) ahead h.room }
 
 posting_end : (before : Ledger) (all : List Charge) (l : Ledger) → Posting before all [] l → l ≡ posted before all
 unfolding posted credited debited

@@ -19,7 +19,7 @@ use Rattle.plain.specs.Charging.{Charge, posted}
 use Rattle.plain.specs.Calls.{charges, done}
 use Rattle.plain.specs.Invariants.{Fair, AwardFits, DueLong, Deals}
 use Rattle.plain.proofs.Accounts.{Accountable, posts_credits, posted_total, done_ledger, booked}
-use Rattle.plain.specs.Sound.{marked, AuctionedBook, cents, Places, Booked, Balanced, Bound}
+use Rattle.plain.specs.Sound.{marked, AuctionedBook, Places, Booked, Balanced, Bound}
 use Rattle.plain.proofs.Awards.{mark_of}
 use Rattle.tables.specs.Tables.{Positions, positions, PositionsFit}
 use Rattle.ledger.specs.Posts.{Room}

@@ -1,12 +1,11 @@
-// Posting charges on the accounts: each raises the payee's credits and the payer's debits. The two columns of the ledger are lent, and
-// changed where they stand. The tables that charges go by are numbers that a caller lends, too.
+// Posting charges on the accounts: each raises the payee's credits and the payer's debits. The ledger is lent, and changed where it
+// stands. The tables that charges go by are numbers that a caller lends, too.
 #![tactic(auto)]
 
 ghost use Rattle.std.specs.Prelude.{◌≡◌, not, ◌&&◌, [], ◌∷◌, ℕ, ◌+◌, ◌<◌, ◌≤◌, eqb, ltb, length, get_or};
 ghost use Rattle.laws.specs.Limits.{ACCOUNTS, SHEET_CELLS};
 ghost use Rattle.rules.specs.Charges.{buy_in_charge};
 ghost use Rattle.plain.specs.Charging.{raise, posted, charge};
-ghost use Rattle.ledger.specs.Posts.{ledger_of};
 ghost use Rattle.ledger.specs.Parts.{award_fines_of, late_fines_of, close_charges_of};
 ghost use Rattle.ledger.specs.Tabled.{Chargeable, AwardsFinable, LateFinable, CloseFinable, Priceable, PricedOn};
 ghost use Rattle.laws.specs.declared.BusinessDay.{BusinessDay};
@@ -16,7 +15,7 @@ ghost use Rattle.tables.specs.Lent.{position_table, award_table, piece_table};
 ghost use Rattle.ledger.specs.Settling.{highest_long, price_of, payments_at, settlement_of, Settleable};
 
 use laws::{ACCOUNTS, AWARD_CELLS, POSITION_CELLS, SHEET_CELLS};
-use plain::Position;
+use plain::{Ledger, Position};
 use register::Register;
 use rules::Amount;
 use tables::Prices;
@@ -29,39 +28,26 @@ fn raise_place(column: &mut [u64; ACCOUNTS], account: u8, cents: u64)
     ensures { column.new ≡ raise column.old account cents }
 {
     let k = account as usize;
-    column[k] = column[k] + cents;
+    column[k] += cents;
 }
 
-pub fn post(
-    credits: &mut [u64; ACCOUNTS],
-    debits: &mut [u64; ACCOUNTS],
-    payer: u8,
-    payee: u8,
-    cents: u64,
-)
-    requires { Chargeable (ledger_of credits.old debits.old) (record { payer = payer; payee = payee; cents = cents }) }
-    ensures { ledger_of credits.new debits.new ≡ posted (ledger_of credits.old debits.old) (record { payer = payer; payee = payee; cents = cents } ∷ []) }
+pub fn post(ledger: &mut Ledger, payer: u8, payee: u8, cents: u64)
+    requires { Chargeable ledger.old (record { payer = payer; payee = payee; cents = cents }) }
+    ensures { ledger.new ≡ posted ledger.old (record { payer = payer; payee = payee; cents = cents } ∷ []) }
 {
-    raise_place(credits, payee, cents);
-    raise_place(debits, payer, cents);
+    raise_place(&mut ledger.credits, payee, cents);
+    raise_place(&mut ledger.debits, payer, cents);
 }
 
 // A charge to the house, or the credit that a negative one is.
-pub fn post_buy_in(
-    credits: &mut [u64; ACCOUNTS],
-    debits: &mut [u64; ACCOUNTS],
-    member: u8,
-    quantity: u32,
-    price: u32,
-    reference: u32,
-)
-    requires { Chargeable (ledger_of credits.old debits.old) (charge member (buy_in_charge quantity price reference)) }
-    ensures { ledger_of credits.new debits.new ≡ posted (ledger_of credits.old debits.old) (charge member (buy_in_charge quantity price reference) ∷ []) }
+pub fn post_buy_in(ledger: &mut Ledger, member: u8, quantity: u32, price: u32, reference: u32)
+    requires { Chargeable ledger.old (charge member (buy_in_charge quantity price reference)) }
+    ensures { ledger.new ≡ posted ledger.old (charge member (buy_in_charge quantity price reference) ∷ []) }
 {
     let amount = rules::buy_in_charge(quantity, price, reference);
     match amount {
-        Amount::Debit(cents) => post(credits, debits, member, HOUSE, cents),
-        Amount::Credit(cents) => post(credits, debits, HOUSE, member, cents),
+        Amount::Debit(cents) => post(ledger, member, HOUSE, cents),
+        Amount::Credit(cents) => post(ledger, HOUSE, member, cents),
     }
 }
 
@@ -69,25 +55,18 @@ pub fn post_buy_in(
 fn award_is_fined(confirmed: bool, latest: u32) -> bool
     ensures { result ≡ (not confirmed && ltb 0 latest) }
 {
-    if confirmed { false } else { 0 < latest }
+    !confirmed && 0 < latest
 }
 
 // A class 1 short that is due costs its member, where the security has a price.
 fn short_is_fined(position: Position, class: u8, latest: u32) -> bool
     ensures { result ≡ (position.short && eqb class 1 && ltb 0 latest) }
 {
-    if !position.short {
-        return false;
-    }
-    if class != 1 {
-        return false;
-    }
-    0 < latest
+    position.short && class == 1 && 0 < latest
 }
 
 pub fn post_award_fines(
-    credits: &mut [u64; ACCOUNTS],
-    debits: &mut [u64; ACCOUNTS],
+    ledger: &mut Ledger,
     awards: &[u32; AWARD_CELLS],
     awarded: usize,
     rows: &[u32; POSITION_CELLS],
@@ -95,11 +74,10 @@ pub fn post_award_fines(
     prices: Prices,
     register: Register,
 )
-    requires { AwardsFinable (ledger_of credits.old debits.old) (award_table awards.now awarded) (position_table rows.now held) prices register }
-    ensures { ledger_of credits.new debits.new ≡ posted (ledger_of credits.old debits.old) (award_fines_of (award_table awards.now awarded) (position_table rows.now held) prices register) }
+    requires { AwardsFinable ledger.old (award_table awards.now awarded) (position_table rows.now held) prices register }
+    ensures { ledger.new ≡ posted ledger.old (award_fines_of (award_table awards.now awarded) (position_table rows.now held) prices register) }
 {
-    let mut i: usize = 0;
-    while i < awarded {
+    for i in 0..awarded {
         let award = rows::award_at(awards, i);
         let place = (award.position - 1) as usize;
         let short = rows::row_at(rows, place);
@@ -108,43 +86,36 @@ pub fn post_award_fines(
         if award_is_fined(award.confirmed, latest) {
             let class = register.classes[k];
             let fine = rules::award_fine(class, rules::value_of(award.quantity, latest));
-            raise_place(credits, HOUSE, fine);
-            raise_place(debits, award.offerer, fine);
+            post(ledger, award.offerer, HOUSE, fine);
         }
-        i += 1;
     }
 }
 
 // The positions before the place `until` are those that are due on a day: which day that is, and how many positions there are, need not be given.
 pub fn post_late_fines(
-    credits: &mut [u64; ACCOUNTS],
-    debits: &mut [u64; ACCOUNTS],
+    ledger: &mut Ledger,
     rows: &[u32; POSITION_CELLS],
     until: usize,
     prices: Prices,
     register: Register,
 )
-    requires { (held : ℕ) × (day : BusinessDay) × (LateFinable (ledger_of credits.old debits.old) (position_table rows.now held) prices register day) × (LateBefore (day.0 + 1) (positions (position_table rows.now held)) until) }
-    ensures { (held : ℕ) (day : BusinessDay) → LateFinable (ledger_of credits.old debits.old) (position_table rows.now held) prices register day → LateBefore (day.0 + 1) (positions (position_table rows.now held)) until → ledger_of credits.new debits.new ≡ posted (ledger_of credits.old debits.old) (late_fines_of (position_table rows.now held) prices register day) }
+    requires { (held : ℕ) × (day : BusinessDay) × (LateFinable ledger.old (position_table rows.now held) prices register day) × (LateBefore (day.0 + 1) (positions (position_table rows.now held)) until) }
+    ensures { (held : ℕ) (day : BusinessDay) → LateFinable ledger.old (position_table rows.now held) prices register day → LateBefore (day.0 + 1) (positions (position_table rows.now held)) until → ledger.new ≡ posted ledger.old (late_fines_of (position_table rows.now held) prices register day) }
 {
-    let mut i: usize = 0;
-    while i < until {
+    for i in 0..until {
         let short = rows::row_at(rows, i);
         let k = (short.security - 1) as usize;
         let class = register.classes[k];
         let latest = prices.latest[k];
         if short_is_fined(short, class, latest) {
             let fine = rules::late_fine(rules::value_of(short.unsettled, latest));
-            raise_place(credits, HOUSE, fine);
-            raise_place(debits, short.member, fine);
+            post(ledger, short.member, HOUSE, fine);
         }
-        i += 1;
     }
 }
 
 pub fn post_close(
-    credits: &mut [u64; ACCOUNTS],
-    debits: &mut [u64; ACCOUNTS],
+    ledger: &mut Ledger,
     awards: &[u32; AWARD_CELLS],
     awarded: usize,
     rows: &[u32; POSITION_CELLS],
@@ -153,15 +124,13 @@ pub fn post_close(
     prices: Prices,
     register: Register,
 )
-    requires { (day : BusinessDay) × (CloseFinable (ledger_of credits.old debits.old) (award_table awards.now awarded) (position_table rows.now held) prices register day) × (LateBefore (day.0 + 1) (positions (position_table rows.now held)) until) }
-    ensures { (day : BusinessDay) → CloseFinable (ledger_of credits.old debits.old) (award_table awards.now awarded) (position_table rows.now held) prices register day → LateBefore (day.0 + 1) (positions (position_table rows.now held)) until → ledger_of credits.new debits.new ≡ posted (ledger_of credits.old debits.old) (close_charges_of (award_table awards.now awarded) (position_table rows.now held) prices register day) }
+    requires { (day : BusinessDay) × (CloseFinable ledger.old (award_table awards.now awarded) (position_table rows.now held) prices register day) × (LateBefore (day.0 + 1) (positions (position_table rows.now held)) until) }
+    ensures { (day : BusinessDay) → CloseFinable ledger.old (award_table awards.now awarded) (position_table rows.now held) prices register day → LateBefore (day.0 + 1) (positions (position_table rows.now held)) until → ledger.new ≡ posted ledger.old (close_charges_of (award_table awards.now awarded) (position_table rows.now held) prices register day) }
 {
     if 0 < awarded {
-        post_award_fines(
-            credits, debits, awards, awarded, rows, held, prices, register,
-        );
+        post_award_fines(ledger, awards, awarded, rows, held, prices, register);
     }
-    post_late_fines(credits, debits, rows, until, prices, register);
+    post_late_fines(ledger, rows, until, prices, register);
 }
 
 // The first pass of a cash settlement over its pieces: the highest reference price among their longs.
@@ -175,24 +144,19 @@ fn highest_reference(
     ensures { result ≡ highest_long (position_table rows.now held) (piece_table sheet.now dealt) }
 {
     let mut highest: u32 = 0;
-    let mut i: usize = 0;
-    while i < dealt {
+    // Not a chain with `map` and `max`: its goals `max-requires-clause-can` and `returns` stay open.
+    for i in 0..dealt {
         let number = pieces::long_at(sheet, i);
         let place = (number - 1) as usize;
         let long = rows::row_at(rows, place);
-        let reference = long.reference;
-        if highest < reference {
-            highest = reference;
-        }
-        i += 1;
+        highest = highest.max(long.reference);
     }
     highest
 }
 
 // The second pass: each piece gets its cents at the price of the settlement and is paid for, on the lent sheet.
 fn post_payments(
-    credits: &mut [u64; ACCOUNTS],
-    debits: &mut [u64; ACCOUNTS],
+    ledger: &mut Ledger,
     rows: &[u32; POSITION_CELLS],
     held: usize,
     sheet: &mut [u64; SHEET_CELLS],
@@ -200,27 +164,23 @@ fn post_payments(
     payer: u8,
     price: u64,
 )
-    requires { (Settleable (ledger_of credits.old debits.old) (payments_at price (position_table rows.now held) (piece_table sheet.old dealt)) (position_table rows.now held) (piece_table sheet.old dealt) payer) × (length sheet.old ≡ SHEET_CELLS) }
-    ensures { (PricedOn sheet.old dealt price sheet.new) × (ledger_of credits.new debits.new ≡ posted (ledger_of credits.old debits.old) (payments_at price (position_table rows.now held) (piece_table sheet.old dealt))) }
+    requires { (Settleable ledger.old (payments_at price (position_table rows.now held) (piece_table sheet.old dealt)) (position_table rows.now held) (piece_table sheet.old dealt) payer) × (length sheet.old ≡ SHEET_CELLS) }
+    ensures { (PricedOn sheet.old dealt price sheet.new) × (ledger.new ≡ posted ledger.old (payments_at price (position_table rows.now held) (piece_table sheet.old dealt))) }
 {
-    let mut i: usize = 0;
-    while i < dealt {
+    for i in 0..dealt {
         let number = pieces::long_at(sheet, i);
         let units = pieces::units_at(sheet, i);
         let place = (number - 1) as usize;
         let long = rows::row_at(rows, place);
         let cents = (units as u64) * price;
         pieces::put_cents(sheet, i, cents);
-        raise_place(credits, long.member, cents);
-        raise_place(debits, payer, cents);
-        i += 1;
+        post(ledger, payer, long.member, cents);
     }
 }
 
 // The payments at the one price of the settlement, and the fee of the short, which is given as it was before the settlement.
 pub fn post_cash(
-    credits: &mut [u64; ACCOUNTS],
-    debits: &mut [u64; ACCOUNTS],
+    ledger: &mut Ledger,
     rows: &[u32; POSITION_CELLS],
     held: usize,
     sheet: &mut [u64; SHEET_CELLS],
@@ -229,21 +189,12 @@ pub fn post_cash(
     class: u8,
     latest: u32,
 )
-    requires { (Settleable (ledger_of credits.old debits.old) (settlement_of class latest short (position_table rows.now held) (piece_table sheet.old dealt)) (position_table rows.now held) (piece_table sheet.old dealt) short.member) × (length sheet.old ≡ SHEET_CELLS) }
-    ensures { (PricedOn sheet.old dealt (price_of class latest short (position_table rows.now held) (piece_table sheet.old dealt)) sheet.new) × (ledger_of credits.new debits.new ≡ posted (ledger_of credits.old debits.old) (settlement_of class latest short (position_table rows.now held) (piece_table sheet.old dealt))) }
+    requires { (Settleable ledger.old (settlement_of class latest short (position_table rows.now held) (piece_table sheet.old dealt)) (position_table rows.now held) (piece_table sheet.old dealt) short.member) × (length sheet.old ≡ SHEET_CELLS) }
+    ensures { (PricedOn sheet.old dealt (price_of class latest short (position_table rows.now held) (piece_table sheet.old dealt)) sheet.new) × (ledger.new ≡ posted ledger.old (settlement_of class latest short (position_table rows.now held) (piece_table sheet.old dealt))) }
 {
     let long = highest_reference(rows, held, sheet, dealt);
     let price = rules::cash_price(class, short.reference, long, latest);
-    post_payments(
-        credits,
-        debits,
-        rows,
-        held,
-        sheet,
-        dealt,
-        short.member,
-        price,
-    );
+    post_payments(ledger, rows, held, sheet, dealt, short.member, price);
     let fee = rules::cash_fee(rules::value_of(short.unsettled, latest));
-    post(credits, debits, short.member, HOUSE, fee);
+    post(ledger, short.member, HOUSE, fee);
 }

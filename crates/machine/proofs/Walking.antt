@@ -27,7 +27,8 @@ use Rattle.kept.specs.View.{view}
 use Rattle.kept.proofs.Discharging.{positions_many, cash_security}
 use Rattle.kept.proofs.Auctions.{position_is, members_fit}
 use Rattle.machine.specs.declared.Core.{Core}
-use Rattle.machine.specs.View.{Numbers, Followed, followed_in, kept_of, book_of, held_in, Started, Follows, Held, Falling, Discharging, DischargedBy}
+use Rattle.machine.specs.declared.Numbers.{Numbers}
+use Rattle.machine.specs.View.{Followed, followed_in, kept_of, book_of, held_in, Started, Follows, Held, Falling, Discharging, DischargedBy}
 use Rattle.machine.proofs.Started.{started_kept, started_after}
 use Rattle.plain.proofs.Numbered.{nth_all}
 

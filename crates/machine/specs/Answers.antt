@@ -2,16 +2,16 @@
 use Rattle.std.specs.Prelude.{ℕ, zero, suc, ◌≡◌}
 use Rattle.std.proofs.Common.{arith, ap, sym, ◌∙◌}
 use Rattle.laws.specs.Refusals.{accepted, accepted_not}
-use Rattle.plain.specs.declared.Outcome.{Outcome}
+use Rattle.laws.specs.Answers.{Outcome, answer, answer_number, number_in, quantity_of}
 use Rattle.plain.specs.Book.{Book}
 use Rattle.plain.specs.Calls.{Call, amount}
 use Rattle.plain.specs.Refusals.{refusal}
+use Rattle.plain.proofs.Listed.{refusal_listed}
 use Rattle.plain.specs.Histories.{event_of, quantity}
-use Rattle.kept.specs.View.{answer, number_of, quantity_of}
 
-pub answered_number : (o : Outcome) (n q : ℕ) → o ≡ answer n q → number_of o ≡ n
-answered_number o zero q e = ap number_of e
-answered_number o (suc n) q e = ap number_of e
+-- a call's number
+pub answered_number : (b : Book) (c : Call) (o : Outcome) → o ≡ answer (refusal b c) (quantity b c) → number_in o ≡ refusal b c
+answered_number b c o e = ap number_in e ∙ answer_number (refusal b c) (quantity b c) (refusal_listed b c)
 
 units_of : (o : Outcome) (n units : ℕ) → o ≡ answer n (accepted n units 0) → quantity_of o ≡ accepted n units 0
 units_of o zero units e = ap quantity_of e

@@ -7,7 +7,7 @@ use Rattle.plain.specs.declared.Position.{Position}
 use Rattle.plain.specs.declared.Manner.{Manner}
 use Rattle.plain.specs.declared.Manner.TheVariants.{Paired}
 use Rattle.plain.specs.declared.Ledger.{Ledger}
-use Rattle.plain.specs.declared.Outcome.{Outcome}
+use Rattle.laws.specs.Answers.{Outcome, answer}
 use Rattle.plain.specs.Book as plain
 use Rattle.plain.specs.Calls.{Call, paired_piece}
 use Rattle.plain.specs.Refusals.{refusal}
@@ -22,20 +22,11 @@ use Rattle.tables.specs.Late.{LateBefore}
 use Rattle.failing.specs.Counts.{Counted}
 use Rattle.positions.specs.Dealing.{Dealing, dealt_out, HandedOut, ClosedBefore}
 use Rattle.positions.specs.Pairing.{SettingOff}
-use Rattle.kept.specs.View.{Kept, Valid, view, answer}
+use Rattle.kept.specs.View.{Kept, Valid, view}
 use Rattle.machine.specs.declared.Core.{Core}
+use Rattle.machine.specs.declared.Numbers.{Numbers}
 
--- the numbers of what is lent: the tables of positions, trades and awards, the counts of late open shorts, for each security the place where the walk of
--- a discharge starts and its word of failing members, and the two columns of the accounts
-pub record Numbers : Type 0 where
-  pub rows : List ℕ
-  pub trades : List ℕ
-  pub awards : List ℕ
-  pub counts : List ℕ
-  pub starts : List ℕ
-  pub words : List ℕ
-  pub ledger : Ledger
-
+-- what is lent beside the core, part by part
 abbrev pub numbers : List ℕ → List ℕ → List ℕ → List ℕ → List ℕ → List ℕ → Ledger → Numbers
 numbers rows trades awards counts starts words ledger =
     record { rows = rows; trades = trades; awards = awards; counts = counts; starts = starts; words = words; ledger = ledger }

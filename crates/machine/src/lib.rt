@@ -3,16 +3,16 @@
 // fields are public: what protects a call is that it asks for a core and numbers that are held (`Held`), which opening and every call leave.
 #![tactic(auto)]
 
-ghost use Rattle.std.specs.Prelude.{◌≤◌, ◌≡◌, length};
-ghost use Rattle.laws.specs.Limits.{SECURITIES};
+ghost use Rattle.std.specs.Prelude.{◌≤◌, ◌≡◌, length, Ok, Err};
 ghost use Rattle.laws.specs.Asked.{Within};
 ghost use Rattle.register.specs.Accepted.{Registered};
-ghost use Rattle.plain.specs.declared.Outcome.TheVariants as outcome;
 ghost use Rattle.plain.specs.Book.{nth, no_price, looked_up, price_in};
 ghost use Rattle.tables.specs.Tables as table;
 
-use laws::BusinessDay;
-use plain::{Latest, LatestPrice, Opening, Outcome};
+use laws::{
+    AWARD_CELLS, BusinessDay, COUNT_CELLS, POSITION_CELLS, Refusal, SECURITIES, TRADE_CELLS,
+};
+use plain::{Latest, Ledger, Opening};
 use tables::{Auction, Marks, Prices};
 
 // The small parts of a book, and how many places of each table are in use. The first `netted` trades are of earlier days. All positions
@@ -31,32 +31,43 @@ pub struct Core {
     pub awards: usize,
 }
 
-// What a call answers: the core after it, its quantity or refusal, and how many pieces it wrote on its sheet.
+// What is lent to the calls beside the core, and changed where it stands: the tables of positions, trades and awards, the counts of late open shorts, for each
+// security the place where the walk of a discharge starts and its word of failing members, and the accounts.
+#[derive(Drop)]
+pub struct Numbers {
+    pub rows: [u32; POSITION_CELLS],
+    pub trades: [u32; TRADE_CELLS],
+    pub awards: [u32; AWARD_CELLS],
+    pub counts: [u32; COUNT_CELLS],
+    pub starts: [usize; SECURITIES],
+    pub words: [u64; SECURITIES],
+    pub ledger: Ledger,
+}
+
+// What a call answers, refused or not, since a refused call hands back the very core that it was given: the core after it, its quantity or why it is turned down, and how many pieces it wrote on its sheet.
 #[derive(Clone, Copy)]
 pub struct Answered {
     pub core: Core,
-    pub outcome: Outcome,
+    pub outcome: Result<u32, Refusal>,
     pub pieces: usize,
 }
 
-pub fn refused(core: Core, number: u8) -> Answered
-    ensures { result ≡ record { core = core; outcome = outcome.Refused number; pieces = 0 } }
+pub fn refused(core: Core, refusal: Refusal) -> Answered
+    ensures { result ≡ record { core = core; outcome = Err refusal; pieces = 0 } }
 {
-    let outcome = Outcome::Refused(number);
     Answered {
         core,
-        outcome,
+        outcome: Err(refusal),
         pieces: 0,
     }
 }
 
 pub fn done(core: Core, quantity: u32, pieces: usize) -> Answered
-    ensures { result ≡ record { core = core; outcome = outcome.Done quantity; pieces = pieces } }
+    ensures { result ≡ record { core = core; outcome = Ok quantity; pieces = pieces } }
 {
-    let outcome = Outcome::Done(quantity);
     Answered {
         core,
-        outcome,
+        outcome: Ok(quantity),
         pieces,
     }
 }
@@ -71,26 +82,22 @@ pub fn class_of(opening: Opening, security: u16) -> u8
 }
 
 // The latest price of a security, of any age.
-pub fn latest_of(prices: Prices, security: u16) -> LatestPrice
+pub fn latest_of(prices: Prices, security: u16) -> Option<Latest>
     requires { (length (table.prices prices) ≡ SECURITIES) × (Within 1 SECURITIES security) }
     ensures { result ≡ looked_up (nth no_price (table.prices prices) security) }
 {
     let k = (security - 1) as usize;
     let price = prices.latest[k];
     if price == 0 {
-        return LatestPrice::Never;
+        return None;
     }
     let day = prices.days[k];
-    let latest = Latest { price, day };
-    LatestPrice::Given(latest)
+    Some(Latest { price, day })
 }
 
 // The price that a lookup told, 0 where none was given.
-pub fn price_of(latest: LatestPrice) -> u32
+pub fn price_of(latest: Option<Latest>) -> u32
     ensures { result ≡ price_in latest }
 {
-    match latest {
-        LatestPrice::Never => 0,
-        LatestPrice::Given(given) => given.price,
-    }
+    latest.map_or(0, |given| given.price)
 }

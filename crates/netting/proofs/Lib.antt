@@ -1,4 +1,3 @@
-pub mod Cells
 pub mod Places
 pub mod Today
 pub mod Filling

@@ -4,6 +4,7 @@ use native.Mathlib.Nat.{zero-add}
 use native.Mathlib.Omega.{arith}
 use mathlib.Core.Path.{◌≡◌, refl, ap, ap₂, sym, ◌∙◌}
 use mathlib.Core.List.{List, [], ◌∷◌, ◌++◌, append-nil}
+use Rattle.std.specs.Prelude.{None, Some}
 use mathlib.Core.Bool.{Bool, true, false, not, ◌&&◌}
 use lib.ListN.{length}
 use lib.Dec.{eqb}
@@ -24,7 +25,7 @@ use Rattle.netting.specs.declared.Side.{Side}
 use Rattle.netting.specs.declared.Side.TheVariants.{Sale, Purchase}
 use Rattle.netting.specs.declared.Total.{Total}
 use Rattle.netting.specs.Gathering.{key_for, party_of, party_kind_of, traded_by, total_of, Gathered}
-use Rattle.netting.specs.Members.{net_from, net_in, kind_positions, own_positions, both_positions}
+use Rattle.netting.specs.Members.{net_from, net_in, kind_positions, member_positions}
 use Rattle.netting.specs.Netting.{is_client}
 
 module _ (day : ℕ) (k : Key) (bought sold : Total) where
@@ -112,9 +113,9 @@ module _ (day : ℕ) (trades : Trades) (securities : ℕ) (few : securities ≤ 
       ∙ each_same (λ m. (1 ≤ m) × (m < 64)) (λ m. each (net day (today trades)) (member_keys securities m)) f (range 1 63)
       (λ m k. h m (record { above = k.0; below = omega (arith, k.1) })) (all_range 1 63)
 
-  pub both_netted : (own client : List Total) → Gathered Own trades own → Gathered Client trades client → netted day (today trades) (keys securities) ≡ each (both_positions day own client securities) (range 1 63)
+  pub both_netted : (own client : List Total) → Gathered Own trades own → Gathered Client trades client → netted day (today trades) (keys securities) ≡ each (member_positions day own (Some client) securities) (range 1 63)
   both_netted own client g c =
-      day_netted (both_positions day own client securities)
+      day_netted (member_positions day own (Some client) securities)
       (λ m h. member_netted m ∙ ap₂ (λ (x y : List Position). x ++ y) (kind_netted Own own m g h) (kind_netted Client client m c h))
 
   -- client business of a day that has none makes no position
@@ -129,10 +130,10 @@ module _ (day : ℕ) (trades : Trades) (securities : ℕ) (few : securities ≤ 
           let none = net_of_lem day (today trades) k ∙ net_none day k (total_of Purchase k (today trades)) (total_of Sale k (today trades)) (no_units Purchase member s (today trades) e ∙ sym (no_units Sale member s (today trades) e)) in
           ap (λ (l : List Position). l ++ each (net day (today trades)) (each (λ s. key_for member Client s ∷ []) ss)) none ∙ over ss
 
-  pub own_netted : (own : List Total) → Gathered Own trades own → some is_client (today trades) ≡ false → netted day (today trades) (keys securities) ≡ each (own_positions day own securities) (range 1 63)
+  pub own_netted : (own : List Total) → Gathered Own trades own → some is_client (today trades) ≡ false → netted day (today trades) (keys securities) ≡ each (member_positions day own None securities) (range 1 63)
   own_netted own g e =
-      day_netted (own_positions day own securities)
-      (λ m h. member_netted m ∙ ap₂ (λ (x y : List Position). x ++ y) (kind_netted Own own m g h) (none_client m e) ∙ append-nil (own_positions day own securities m))
+      day_netted (member_positions day own None securities)
+      (λ m h. member_netted m ∙ ap₂ (λ (x y : List Position). x ++ y) (kind_netted Own own m g h) (none_client m e))
 
 -- a day without trades makes none
 pub netted_nothing : (day : ℕ) (trades : List Trade) (count : ℕ) → length trades ≡ 0 → netted day trades (keys count) ≡ []

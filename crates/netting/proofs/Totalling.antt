@@ -2,11 +2,11 @@
 use Prim.Native.Nat.{ℕ, zero, suc, ◌+◌, ◌-◌, ◌≤◌, ◌<◌, max}
 use native.Mathlib.Nat.{add-zero, max-zero}
 use native.Mathlib.Omega.{arith}
-use mathlib.Core.Path.{◌≡◌, ap, ap₂, sym, ◌∙◌, subst}
+use mathlib.Core.Path.{◌≡◌, refl, ap, ap₂, sym, ◌∙◌, subst}
 use mathlib.Core.Logic.{◌≢◌}
 use mathlib.Core.List.{List, [], ◌∷◌, ◌++◌}
-use mathlib.Core.Bool.{Bool, true, false, true≢false, ◌&&◌}
-use lib.ListN.{length, get_or, take, length-replicate}
+use mathlib.Core.Bool.{Bool, true, false, true≢false, cond, ◌&&◌}
+use lib.ListN.{length, get_or, set, length-set, take, replicate, length-replicate, get_or-replicate}
 use lib.Seq.{take-suc, take_all, get_or-set_same, get_or-set_other, length-take-le}
 use lib.Dec.{eqb}
 use borrow.Author.Tests.{eq-eqb, eqb-true}
@@ -24,8 +24,7 @@ use Rattle.tables.specs.Tables.{Trades, today}
 use Rattle.netting.specs.declared.Side.{Side}
 use Rattle.netting.specs.declared.Side.TheVariants.{Sale, Purchase}
 use Rattle.netting.specs.declared.Total.{Total}
-use Rattle.netting.specs.Gathering.{no_total, totals_of, no_totals, key_for, place_of, party_of, party_kind_of, key_of, traded_by, total_in, total_of, added, raised, Totalled, Raisable, Gatherable, Gathered}
-use Rattle.netting.proofs.Cells.{length_totals, none_total}
+use Rattle.netting.specs.Gathering.{no_total, key_for, place_of, party_of, party_kind_of, key_of, traded_by, total_in, total_of, added, raised, Totalled, Addable, Gatherable, Gathered}
 use Rattle.netting.proofs.Today.{length_today, today_at}
 use Rattle.netting.proofs.Places.{place_fits, same_key, opposite, sides_apart}
 
@@ -104,29 +103,37 @@ module _ (kind : Kind) (side : Side) (ts : List Trade) (t : Trade) (l : List Tot
           rw n (get_or-set_other l (place_of side (party_of side t) t.security) (place_of (opposite side) m s) _ no_total (sides_apart side m s (party_of side t) t.security) ∙ h m s fits)
       go (failed n) = rw n (h m s fits)
 
+-- there are as many totals as before
+length_raised : (kind : Kind) (side : Side) (t : Trade) (l : List Total) → length (raised kind side t l) ≡ length l
+length_raised kind side t l = go (eqb (party_kind_of side t) (kind_number kind))
+  where
+    go : (b : Bool) → length (cond b (set l (place_of side (party_of side t) t.security) (added t (total_in l side (key_of kind side t)))) l) ≡ length l
+    go true = length-set l _ _
+    go false = refl
+
 -- THE PASS
 
 -- the totals of a kind of the first trades of today, up to place i of the table
-pub record Totalling (kind : Kind) (trades : Trades) (i : ℕ) (xs : List ℕ) : Type 0 where
+pub record Totalling (kind : Kind) (trades : Trades) (i : ℕ) (xs : List Total) : Type 0 where
   pub low : trades.netted ≤ i
   pub high : i ≤ trades.count
-  pub long : length xs ≡ 8064
-  pub totals : (side : Side) → Totalled kind side (take (i - trades.netted) (today trades)) (totals_of xs)
+  pub long : length xs ≡ 4032
+  pub totals : (side : Side) → Totalled kind side (take (i - trades.netted) (today trades)) xs
 
 module _ (kind : Kind) (trades : Trades) (g : Gatherable trades) where
-  pub totalling_start : (xs : List ℕ) → xs ≡ no_totals → Totalling kind trades trades.netted xs
-  unfolding no_totals units highest_price
+  pub totalling_start : (xs : List Total) → xs ≡ replicate 4032 no_total → Totalling kind trades trades.netted xs
+  unfolding units highest_price
   totalling_start xs none =
       let e : trades.netted - trades.netted ≡ 0 = omega arith in
       record {
         low = omega arith;
         high = g.fit.past;
-        long = ap length none ∙ length-replicate {A = ℕ} 8064 0;
-        totals = λ side m s f. rw (e, none) (none_total (place_of side m s) (place_fits kind side m s f));
+        long = ap length none ∙ length-replicate {A = Total} 4032 no_total;
+        totals = λ side m s f. rw (e, none) (get_or-replicate {A = Total} 4032 (place_of side m s) no_total no_total (place_fits kind side m s f));
       }
 
   -- the trade that was read at place i is raised on each side
-  module _ (i : ℕ) (xs : List ℕ) (s : Totalling kind trades i xs) (k : i < trades.count) (t : Trade) (read : t ≡ get_or trades.items i no_trade) where
+  module _ (i : ℕ) (xs : List Total) (s : Totalling kind trades i xs) (k : i < trades.count) (t : Trade) (read : t ≡ get_or trades.items i no_trade) where
     abbrev passed_trades : List Trade
     passed_trades = take (i - trades.netted) (today trades)
 
@@ -139,44 +146,44 @@ module _ (kind : Kind) (trades : Trades) (g : Gatherable trades) where
         (all_at (TradeFits 32) (today trades) (i - trades.netted) no_trade (omega (arith, length_today trades g, s.low)) g.fair)
 
     -- so far no total exceeds what 512 trades come to
-    pub raisable : (side : Side) (ys : List ℕ) → length ys ≡ 8064 → Totalled kind side passed_trades (totals_of ys) → Raisable ys kind side t
-    raisable side ys long h =
-        record {
-          long = long;
-          fair = fair;
-          addable =
-              record {
-                total =
-                    rw (h (party_of side t) t.security (key_fits kind side t fair))
-                    (omega (
-                      arith,
-                      g.fit.held,
-                      length-take-le (i - trades.netted) (today trades) (omega (arith, length_today trades g)),
-                      units_le (traded_by side (key_of kind side t)) 32 passed_trades (all_take (TradeFits 32) (i - trades.netted) (today trades) g.fair),
-                    ));
-                trade = fair.quantity.below;
-              };
-        }
+    pub raisable : (side : Side) (ys : List Total) → Totalled kind side passed_trades ys → TradeFits 32 t × Addable (total_in ys side (key_of kind side t)) t
+    raisable side ys h = (
+      fair,
+      record {
+        total =
+            rw (h (party_of side t) t.security (key_fits kind side t fair))
+            (omega (
+              arith,
+              g.fit.held,
+              length-take-le (i - trades.netted) (today trades) (omega (arith, length_today trades g)),
+              units_le (traded_by side (key_of kind side t)) 32 passed_trades (all_take (TradeFits 32) (i - trades.netted) (today trades) g.fair),
+            ));
+        trade = fair.quantity.below;
+      },
+    )
 
-    module _ (ys : List ℕ) (sale : totals_of ys ≡ raised kind Sale t (totals_of xs)) where
-      pub purchases_kept : Totalled kind Purchase passed_trades (totals_of ys)
-      purchases_kept = rw sale (raised_opposite kind Sale passed_trades t (totals_of xs) fair (s.totals Purchase))
+    module _ (ys : List Total) (sale : ys ≡ raised kind Sale t xs) where
+      pub purchases_kept : Totalled kind Purchase passed_trades ys
+      purchases_kept = rw sale (raised_opposite kind Sale passed_trades t xs fair (s.totals Purchase))
 
-      pub totalling_more : (zs : List ℕ) → length zs ≡ 8064 → totals_of zs ≡ raised kind Purchase t (totals_of ys) → Totalling kind trades (i + 1) zs
-      totalling_more zs long purchase =
+      pub totalling_more : (zs : List Total) → zs ≡ raised kind Purchase t ys → Totalling kind trades (i + 1) zs
+      totalling_more zs purchase =
           let next : i + 1 - trades.netted ≡ suc (i - trades.netted) = omega (arith, s.low) in
           record {
             low = omega (arith, s.low);
             high = omega arith;
-            long = long;
+            long = ap length purchase ∙ length_raised kind Purchase t ys ∙ many;
             totals = λ side. rw (next, take-suc (today trades) (i - trades.netted) no_trade (omega (arith, length_today trades g, s.low)), trade_today, purchase) (more side);
           }
         where
-          more : (side : Side) → Totalled kind side (passed_trades ++ t ∷ []) (raised kind Purchase t (totals_of ys))
-          more Purchase = raised_own kind Purchase passed_trades t (totals_of ys) fair (length_totals ys) purchases_kept
-          more Sale =
-              raised_opposite kind Purchase (passed_trades ++ t ∷ []) t (totals_of ys) fair
-              (rw sale (raised_own kind Sale passed_trades t (totals_of xs) fair (length_totals xs) (s.totals Sale)))
+          many : length ys ≡ 4032
+          many = ap length sale ∙ length_raised kind Sale t xs ∙ s.long
 
-  pub gathered : (i : ℕ) (xs : List ℕ) → Totalling kind trades i xs → trades.count ≤ i → Gathered kind trades (totals_of xs)
+          more : (side : Side) → Totalled kind side (passed_trades ++ t ∷ []) (raised kind Purchase t ys)
+          more Purchase = raised_own kind Purchase passed_trades t ys fair many purchases_kept
+          more Sale =
+              raised_opposite kind Purchase (passed_trades ++ t ∷ []) t ys fair
+              (rw sale (raised_own kind Sale passed_trades t xs fair s.long (s.totals Sale)))
+
+  pub gathered : (i : ℕ) (xs : List Total) → Totalling kind trades i xs → trades.count ≤ i → Gathered kind trades xs
   gathered i xs s k = record { gathered = λ side. rw (← take_all (i - trades.netted) (today trades) (omega (arith, length_today trades g))) (s.totals side) }

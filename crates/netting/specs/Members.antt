@@ -1,5 +1,5 @@
 -- The positions that the totals of a member's business make, and what putting them into the table of positions asks and ensures.
-use Rattle.std.specs.Prelude.{ℕ, ◌+◌, ◌-◌, ◌≤◌, ◌≡◌, ◌≢◌, List, ◌++◌, length}
+use Rattle.std.specs.Prelude.{ℕ, ◌+◌, ◌≤◌, ◌≡◌, ◌≢◌, List, [], ◌++◌, length, None, Option, Some}
 use Rattle.laws.specs.Limits.{LAST_DAY, MEMBERS, POSITIONS, SECURITIES}
 use Rattle.laws.specs.Lists.{each, range}
 use Rattle.laws.specs.declared.BusinessDay.{BusinessDay}
@@ -24,12 +24,13 @@ net_in day totals k = net_from day k (total_in totals Purchase k) (total_in tota
 abbrev pub kind_positions : ℕ → List Total → ℕ → ℕ → Kind → List Position
 kind_positions day totals securities member kind = each (λ s. net_in day totals (key_for member kind s)) (range 1 securities)
 
--- those of its own business, and of its business of both kinds, each by its totals
-abbrev pub own_positions : ℕ → List Total → ℕ → ℕ → List Position
-own_positions day own securities member = kind_positions day own securities member Own
+-- those of its clients' business, where there are totals of it, and of all its business
+abbrev pub client_positions : ℕ → Option (List Total) → ℕ → ℕ → List Position
+client_positions day None securities member = []
+client_positions day (Some client) securities member = kind_positions day client securities member Client
 
-abbrev pub both_positions : ℕ → List Total → List Total → ℕ → ℕ → List Position
-both_positions day own client securities member = kind_positions day own securities member Own ++ kind_positions day client securities member Client
+abbrev pub member_positions : ℕ → List Total → Option (List Total) → ℕ → ℕ → List Position
+member_positions day own clients securities member = kind_positions day own securities member Own ++ client_positions day clients securities member
 
 pub record Unequal (day : BusinessDay) (bought sold : Total) : Type 0 where
   pub dated : day.0 ≤ LAST_DAY

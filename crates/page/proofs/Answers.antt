@@ -7,7 +7,11 @@ use mathlib.Core.List.{List, [], ◌∷◌, ◌++◌}
 use lib.ListN.{length, get_or, drop}
 use lib.Seq.{get_or-take, length-take-le}
 use borrow.Author.Tests.{lt-ltb, le-ltb}
+use Rattle.std.proofs.Common.{Result, Ok, Err, ◌≢◌}
+use Rattle.laws.specs.Answers.{number, number_some, answer, answer_refused}
 use Rattle.laws.specs.Refusals.{◌⇒◌, first, accepted_not}
+use Rattle.laws.specs.declared.Refusal.{Refusal}
+use Rattle.laws.specs.declared.Refusal.TheVariants.{ShortPage}
 use Rattle.laws.specs.Asked.{Within}
 use Rattle.plain.specs.Book.{Book, no_position, position_of}
 use Rattle.plain.proofs.Numbered.{place_nth}
@@ -15,26 +19,27 @@ use Rattle.rows.specs.Rows.{rows_of}
 use Rattle.tables.specs.Tables.{positions}
 use Rattle.kept.specs.View.{view}
 use Rattle.machine.specs.declared.Core.{Core}
-use Rattle.machine.specs.View.{Numbers, book_of, Held}
+use Rattle.machine.specs.declared.Numbers.{Numbers}
+use Rattle.machine.specs.View.{book_of, Held}
 use Rattle.replay.specs.Replay.{replay_refusal, decides}
 use Rattle.page.specs.Columns.{LINE}
 use Rattle.page.specs.Page.{page_text, Showable}
-use Rattle.page.specs.Answer.{end_of, too_short, page_refusal, answered, left, page_answer, page_after, Shown}
+use Rattle.page.specs.Answer.{end_of, too_short, page_refusal, left, page_after, Shown}
 use Rattle.page.proofs.Legible.{Small, small, small_fits, legible_page}
 
 -- ---- a book, by the length of the page
 
-pub none_shown : (b : Book) (page : List ℕ) → length page < LINE * length b.positions → Shown b page page 31
-unfolding answered left
+pub none_shown : (b : Book) (page : List ℕ) → length page < LINE * length b.positions → Shown b page page (Err ShortPage)
+unfolding left
 none_shown b page h =
     let e = lt-ltb (length page) (LINE * length b.positions) h in
     record { answer = rw e; page' = rw e }
 
-pub all_shown : (b : Book) (page after : List ℕ) (r : ℕ) → LINE * length b.positions ≤ length page → length (page_text b) ≡ r → after ≡ page_text b ++ drop r page → Shown b page after r
-unfolding answered left
+pub all_shown : (b : Book) (page after : List ℕ) (r : ℕ) → LINE * length b.positions ≤ length page → length (page_text b) ≡ r → after ≡ page_text b ++ drop r page → Shown b page after (Ok r)
+unfolding left
 all_shown b page after r h bytes e =
     let long = le-ltb (length page) (LINE * length b.positions) h in
-    record { answer = rw long (sym bytes); page' = rw long (e ∙ ap (λ (n : ℕ). page_text b ++ drop n page) (sym bytes)) }
+    record { answer = rw long (ap Ok (sym bytes)); page' = rw long (e ∙ ap (λ (n : ℕ). page_text b ++ drop n page) (sym bytes)) }
 
 -- ---- a core with its numbers
 
@@ -71,14 +76,17 @@ module _ (core : Core) (a : Numbers) (held : Held core a) where
 -- ---- register and file
 
 module _ (register file page : List ℕ) where
-  pub refused : (number : ℕ) → number ≡ replay_refusal register file → (number ≡ 0 → ⊥) → (number ≡ page_answer register file page) × (page ≡ page_after register file page)
-  unfolding page_refusal page_answer page_after answered left
-  refused number e h =
-      let n = page_refusal register file (length page) in
-      let same : n ≡ number = decides (replay_refusal register file) (first ((too_short (end_of register file) (length page) ⇒ 31) ∷ [])) (λ z. h (e ∙ z)) ∙ sym e in
-      let other : n ≡ 0 → ⊥ = λ z. h (sym same ∙ z) in
-      (sym (accepted_not n _ n other ∙ same), sym (accepted_not n _ page other))
+  abbrev answered : Result ℕ Refusal
+  answered = answer (page_refusal register file (length page)) (length (page_text (end_of register file)))
 
-  pub taken : (after : List ℕ) (r : ℕ) → replay_refusal register file ≡ 0 → Shown (end_of register file) page after r → (r ≡ page_answer register file page) × (after ≡ page_after register file page)
-  unfolding page_refusal page_answer page_after
-  taken after r e s = rw e (s.answer, s.page')
+  pub refused : (r : Refusal) → number r ≡ replay_refusal register file → (Err r ≡ answered) × (page ≡ page_after register file page)
+  unfolding page_refusal page_after left
+  refused r e =
+      let n = page_refusal register file (length page) in
+      let same : n ≡ number r = decides (replay_refusal register file) (first ((too_short (end_of register file) (length page) ⇒ 31) ∷ [])) (λ z. number_some r (e ∙ z)) ∙ sym e in
+      let other : n ≢ 0 = λ z. number_some r (sym same ∙ z) in
+      (answer_refused n _ r (sym same), sym (accepted_not n _ page other))
+
+  pub taken : (after : List ℕ) (r : Result ℕ Refusal) → 0 ≡ replay_refusal register file → Shown (end_of register file) page after r → (r ≡ answered) × (after ≡ page_after register file page)
+  unfolding page_refusal page_after
+  taken after r e s = rw (← e) (s.answer, s.page')

@@ -4,16 +4,16 @@ use native.Mathlib.Omega.{arith}
 use mathlib.Core.Path.{◌≡◌, refl, ◌∙◌}
 use mathlib.Core.Logic.{◌≢◌}
 use mathlib.Core.List.{List, [], ◌∷◌}
-use mathlib.Core.Bool.{Bool, true, false, not}
+use mathlib.Core.Bool.{Bool, not}
 use lib.ListN.{length, take, drop}
 use lib.Dec.{ltb, eqb}
 use Rattle.laws.specs.Limits.{EVENTS}
 use Rattle.laws.specs.Words.{word16_at}
-use Rattle.laws.specs.Lists.{All, each, range}
-use Rattle.laws.specs.Alls.{all_append, all_each, all_any}
-use Rattle.laws.specs.Refusals.{Reason, ◌⇒◌, choose, first, accepted_zero, accepted_not}
+use Rattle.laws.specs.Alls.{all_append}
+use Rattle.laws.specs.Refusals.{◌⇒◌, choose, first, accepted_zero, accepted_not, AtMost, choose_most, first_most}
 use Rattle.laws.specs.WordLaws.{nonzero}
 use Rattle.register.specs.Register as register
+use Rattle.register.specs.Accepted.{read_most}
 use Rattle.events.specs.Layout.{BODY}
 use Rattle.files.specs.Layout.{WIDTH_AT}
 use Rattle.files.specs.File as file
@@ -22,36 +22,16 @@ use Rattle.page.specs.Answer.{end_of, too_short, page_refusal, answered, page_an
 use Rattle.page.specs.Laws.{Told}
 use Rattle.page.proofs.Legible.{every_page}
 
--- reasons whose numbers are at most k refuse with at most k
-abbrev AtMost : ℕ → List Reason → Type 0
-AtMost k rs = All (λ r. r.number ≤ k) rs
-
-choose_most : (t : Bool) (k n rest : ℕ) → n ≤ k → rest ≤ k → choose t n rest ≤ k
-choose_most true k n rest h l = h
-choose_most false k n rest h l = l
-
 two_most : (s t : Bool) (k a b : ℕ) → a ≤ k → b ≤ k → first ((s ⇒ a) ∷ (t ⇒ b) ∷ []) ≤ k
 two_most s t k a b h l = choose_most s k a (choose t b 0) h (choose_most t k b 0 l (omega arith))
 
-first_most : (k : ℕ) (rs : List Reason) → AtMost k rs → first rs ≤ k
-first_most k [] h = omega arith
-first_most k (r ∷ rs) h = choose_most r.applies k r.number (first rs) h.0 (first_most k rs h.1)
-
--- a register refuses with at most 4, a file with at most 7
-register_most : (bytes : List ℕ) → (register.register_read bytes).number ≤ 4
-unfolding register.register_read register.refusal register.entry_reasons
-register_most bytes =
-    let entries = range 0 (register.count bytes) in
-    choose_most (not (register.right_size bytes)) 4 1 _ (omega arith)
-    (first_most 4 (each (register.entry_reasons bytes) entries)
-    (all_each (λ r. r.number ≤ 4) (register.entry_reasons bytes) (λ i. Unit {0}) entries (λ i u. (omega arith, (omega arith, (omega arith, tt)))) (all_any (λ i. Unit {0}) entries (λ i. tt))))
-
+-- a file refuses with at most 7
 checks_most : (kinds bodies : List ℕ) → AtMost 7 (file.checks kinds bodies)
 checks_most [] bodies = tt
 checks_most (kind ∷ kinds) bodies =
     all_append (λ r. r.number ≤ 7) (file.reasons kind (take BODY bodies)) (file.checks kinds (drop BODY bodies)) (omega arith, (omega arith, tt)) (checks_most kinds (drop BODY bodies))
 
-file_most : (bytes : List ℕ) → file.refusal bytes ≤ 7
+pub file_most : (bytes : List ℕ) → file.refusal bytes ≤ 7
 unfolding file.refusal
 file_most bytes =
     let kinds = file.kinds_in bytes (file.count bytes) in
@@ -66,9 +46,9 @@ module _ (bytes events : List ℕ) (room : ℕ) where
   replay_most =
       let a = (register.register_read bytes).number in
       let b = file.refusal events in
-      two_most (nonzero a) (nonzero b) 7 a b (omega (arith, register_most bytes)) (file_most events)
+      two_most (nonzero a) (nonzero b) 7 a b (omega (arith, read_most bytes)) (file_most events)
 
-  page_most : page_refusal bytes events room ≤ 31
+  pub page_most : page_refusal bytes events room ≤ 31
   unfolding page_refusal
   page_most =
       let a = replay_refusal bytes events in

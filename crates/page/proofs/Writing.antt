@@ -1,16 +1,15 @@
 -- A line written column by column over blanks, and lines one after the other.
 use Prim.Native.Nat.{ℕ, ◌+◌, ◌-◌, ◌*◌, ◌≤◌, ◌<◌}
 use native.Mathlib.Omega.{arith}
-use mathlib.Core.Path.{◌≡◌, refl, ap, sym, ◌∙◌}
+use mathlib.Core.Path.{◌≡◌, ap, sym, ◌∙◌}
 use mathlib.Core.List.{List, ◌++◌}
 use mathlib.Core.Bool.{true}
-use lib.ListN.{length, get_or, take, drop}
+use lib.ListN.{length, get_or, drop}
 use lib.Seq.{sets, length-sets}
 use Rattle.laws.specs.Lists.{each, range}
-use Rattle.laws.specs.Listed.{length_range}
 use Rattle.laws.specs.Alls.{all_at}
-use Rattle.report.specs.Pages.{Put, lent, back, back_length, put_none, put_count, put_text}
-use Rattle.report.proofs.Blocks.{put_next}
+use Rattle.report.specs.Pages.{Put, lent, back, back_length, put_count, put_text, put_lent}
+use Rattle.report.proofs.Blocks.{each_index}
 use Rattle.page.specs.Columns.{Column, width, LINE, line, Fits, in_order}
 use Rattle.page.proofs.Laying.{laid, adding, line_next, nowhere}
 
@@ -33,34 +32,28 @@ pub room : (cs : List Column) (i : ℕ) → Fits cs → i < length cs → (get_o
     → (get_or cs i nowhere).first + length (get_or cs i nowhere).text ≤ (get_or cs i nowhere).last + 1
 room cs i fits h l = omega (arith, all_at (λ c. length c.text ≤ width c) cs i nowhere h fits)
 
--- ---- lines one after the other, of 81 bytes each: those of the first i of the numbers 1 to count
+-- ---- lines one after the other, of 81 bytes each: those of the indices below i
 
-module _ (f : ℕ → List ℕ) (count : ℕ) (entry : List ℕ) where
+module _ (text : ℕ → List ℕ) (entry : List ℕ) where
   pub record Lines (page : List ℕ) (i : ℕ) : Type 0 where
-    pub within : i ≤ count
     pub long : length page ≡ length entry
-    pub text : Put (each f (take i (range 1 count))) entry page (LINE * i)
+    pub put : Put (each text (range 0 i)) entry page (LINE * i)
 
-  pub no_lines : Lines entry 0
-  no_lines = record { within = omega arith; long = refl; text = put_none entry }
-
-  module _ (page : List ℕ) (i : ℕ) (w : Lines page i) (more : i < count) where
+  module _ (page : List ℕ) (i : ℕ) (w : Lines page i) where
     -- one line more, written into the part of the page that begins where the others end
-    pub next_lines : (line part : List ℕ) → line ≡ f (get_or (range 1 count) i 0) → length line ≡ LINE → length part ≡ length (lent (LINE * i) page)
+    pub next_lines : (line part : List ℕ) → line ≡ text i → length line ≡ LINE → length part ≡ length (lent (LINE * i) page)
         → part ≡ line ++ drop LINE (lent (LINE * i) page) → Lines (back (LINE * i) page part) (i + 1)
     next_lines line part is bytes same e =
         let at = LINE * i in
         let put : Put line (lent at page) part LINE = record { bytes = sym bytes; page = e ∙ ap (λ (n : ℕ). line ++ drop n (lent at page)) (sym bytes) } in
+        let more = put_lent (each text (range 0 i)) entry page at w.put (text i) part LINE (put_text _ _ (lent at page) part LINE is put) in
         record {
-          within = omega arith;
           long = back_length at page part same ∙ w.long;
-          text =
-              put_count _ entry (back at page part) (at + LINE) (LINE * (i + 1)) (omega arith)
-              (put_next f (range 1 count) 0 entry page part at LINE i (omega (arith, length_range 1 count)) w.text (put_text _ _ (lent at page) part LINE is put));
+          put = put_count _ entry (back at page part) (at + LINE) (LINE * (i + 1)) (omega arith) (put_text _ _ entry (back at page part) (at + LINE) (sym (each_index text i)) more);
         }
 
   -- all of them
-  pub all_lines : (page : List ℕ) (i : ℕ) → Lines page i → i ≡ count → page ≡ each f (take count (range 1 count)) ++ drop (LINE * count) entry
-  all_lines page i w e =
-      let text = rw e at w.text in
-      text.page ∙ ap (λ (n : ℕ). each f (take count (range 1 count)) ++ drop n entry) (sym text.bytes)
+  pub all_lines : (page : List ℕ) (i count : ℕ) → Lines page i → i ≡ count → page ≡ each text (range 0 count) ++ drop (LINE * count) entry
+  all_lines page i count w e =
+      let put = rw e at w.put in
+      put.page ∙ ap (λ (n : ℕ). each text (range 0 count) ++ drop n entry) (sym put.bytes)

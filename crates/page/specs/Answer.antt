@@ -1,6 +1,8 @@
 -- Document 02, Slip 1, 'The desk's page': what the call answers, and what it leaves of the page.
-use Rattle.std.specs.Prelude.{ℕ, ◌*◌, ◌≡◌, Bool, List, [], ◌∷◌, ◌++◌, length, drop, ltb}
+use Rattle.std.specs.Prelude.{ℕ, ◌*◌, ◌≡◌, Bool, List, [], ◌∷◌, ◌++◌, length, drop, ltb, Result}
+use Rattle.laws.specs.Answers.{answer}
 use Rattle.laws.specs.Refusals.{◌⇒◌, first, accepted}
+use Rattle.laws.specs.declared.Refusal.{Refusal}
 use Rattle.laws.specs.WordLaws.{nonzero}
 use Rattle.files.specs.File.{events_of}
 use Rattle.plain.specs.Book.{Book, opening_read, new}
@@ -43,6 +45,6 @@ unfoldable pub page_after : List ℕ → List ℕ → List ℕ → List ℕ
 page_after register file page = left (page_refusal register file (length page)) (end_of register file) page
 
 -- what showing a book answers and leaves of a page, where nothing was refused before: two equations
-pub record Shown (b : Book) (page after : List ℕ) (r : ℕ) : Type 0 where
-  pub answer : r ≡ answered (first ((too_short b (length page) ⇒ 31) ∷ [])) b
+pub record Shown (b : Book) (page after : List ℕ) (r : Result ℕ Refusal) : Type 0 where
+  pub answer : r ≡ answer (first ((too_short b (length page) ⇒ 31) ∷ [])) (length (page_text b))
   pub page' : after ≡ left (first ((too_short b (length page) ⇒ 31) ∷ [])) b page

@@ -11,15 +11,17 @@ ghost use Rattle.plain.specs.Book as plain;
 ghost use Rattle.plain.specs.Histories.{run, calls_of};
 ghost use Rattle.tables.specs.Tables.{positions};
 ghost use Rattle.tables.specs.Lent.{position_table};
-ghost use Rattle.replay.specs.Replay.{NewlyHeld, OpensAs};
-ghost use Rattle.machine.specs.View.{Numbers, on_rows, book_of, Held};
+ghost use Rattle.calls.specs.Opening.{NewlyHeld, OpensAs};
+ghost use Rattle.machine.specs.declared.Numbers.{Numbers};
+ghost use Rattle.machine.specs.View.{on_rows, book_of, Held};
 ghost use Rattle.report.specs.Digits.{digits};
 ghost use Rattle.page.specs.Columns.{LINE, Fits, line};
-ghost use Rattle.page.specs.Page.{columns, isin_of, kind_letter, page_line, page_lines, Showable};
-ghost use Rattle.page.specs.Answer.{page_answer, page_after, Shown};
+ghost use Rattle.page.specs.Page.{columns, isin_of, kind_letter, page_line, page_lines, page_text, Showable};
+ghost use Rattle.laws.specs.Answers.{answer};
+ghost use Rattle.page.specs.Answer.{end_of, page_refusal, page_after, Shown};
 
 use calls::Core;
-use laws::POSITION_CELLS;
+use laws::{POSITION_CELLS, Refusal};
 use plain::{Kind, Position};
 
 const COLUMNS: usize = 80;
@@ -27,23 +29,16 @@ const COLUMNS: usize = 80;
 // The columns of a line and its line feed.
 const LINE: usize = 81;
 
-const BLANK: u8 = 32;
+const BLANK: u8 = b' ';
 
-const LINE_FEED: u8 = 10;
-
-// The refusal of a page that is too short for the positions.
-const PAGE_TOO_SHORT: u64 = 31;
+const LINE_FEED: u8 = b'\n';
 
 // A line without any text.
 fn put_blank_line(page: &mut [u8])
     requires { LINE ≤ length page.old }
     ensures { page.new ≡ line [] ++ drop LINE page.old }
 {
-    let mut i: usize = 0;
-    while i < COLUMNS {
-        page[i] = BLANK;
-        i += 1;
-    }
+    page[..COLUMNS].fill(BLANK);
     page[COLUMNS] = LINE_FEED;
 }
 
@@ -62,11 +57,7 @@ fn put_isin(page: &mut [u8], isins: &[u8; 384], security: u16)
     ensures { page.new ≡ sets page.old 8 (isin_of isins.now security) }
 {
     let from = 12 * (security as usize - 1);
-    let mut i: usize = 0;
-    while i < 12 {
-        page[8 + i] = isins[from + i];
-        i += 1;
-    }
+    page[8..20].copy_from_slice(&isins[from..from + 12]);
 }
 
 // O for own business, C for clients'.
@@ -104,69 +95,49 @@ fn put_positions(page: &mut [u8], isins: &[u8; 384], rows: &[u32; POSITION_CELLS
     requires { (LINE * count ≤ length page.old) × (Showable isins.now rows.now count) }
     ensures { page.new ≡ page_lines isins.now (positions (position_table rows.now count)) ++ drop (LINE * count) page.old }
 {
-    let mut i: usize = 0;
-    while i < count {
+    for i in 0..count {
         let position = rows::row_at(rows, i);
         put_position(&mut page[LINE * i..], isins, (i + 1) as u16, position);
-        i += 1;
     }
 }
 
 // The page of a book: the bytes written, or refusal 31, before anything is written.
-fn show_positions(page: &mut [u8], core: Core, rows: &[u32; POSITION_CELLS]) -> u64
+fn show_positions(
+    page: &mut [u8],
+    core: Core,
+    rows: &[u32; POSITION_CELLS],
+) -> Result<usize, Refusal>
     requires { (others : Numbers) × Held core (on_rows others rows.now) }
     ensures { (others : Numbers) → Shown (book_of core (on_rows others rows.now)) page.old page.new result }
 {
     let count = calls::position_count(core);
-    if page.len() < LINE * count {
-        return PAGE_TOO_SHORT;
+    let written = LINE * count;
+    if page.len() < written {
+        return Err(Refusal::ShortPage);
     }
     let isins = calls::isins(core);
     put_positions(page, &isins, rows, count);
-    (LINE * count) as u64
+    Ok(written)
 }
 
 // The file is played on a new book, whose tables stand here.
-fn show_played(page: &mut [u8], file: &[u8], core: Core) -> u64
+fn show_played(page: &mut [u8], file: &[u8], core: Core) -> Result<usize, Refusal>
     requires { NewlyHeld core }
     ensures { (b : plain.Book) → OpensAs core b → Shown (run b (calls_of (events_of file.now))) page.old page.new result }
 {
-    let mut rows = calls::blank_rows();
-    let mut trades = calls::blank_trades();
-    let mut awards = calls::blank_awards();
-    let mut counts = calls::no_counts();
-    let mut starts = calls::no_starts();
-    let mut words = calls::no_words();
-    let mut credits = calls::no_cents();
-    let mut debits = calls::no_cents();
+    let mut lent = calls::new_numbers();
     let mut sheet = pieces::blank_numbers();
     let count = files::events_in(file) as usize;
-    let after = replay::play(
-        core,
-        &mut rows,
-        &mut trades,
-        &mut awards,
-        &mut counts,
-        &mut starts,
-        &mut words,
-        &mut credits,
-        &mut debits,
-        &mut sheet,
-        file,
-        count,
-    );
-    show_positions(page, after, &rows)
+    let after = replay::play(core, &mut lent, &mut sheet, file, count);
+    show_positions(page, after, &lent.rows)
 }
 
 // The file is played on a book that is opened on the register, and the positions at its end are shown: the bytes written, or refusal 1 to 7 or 31,
 // which leaves the page as it was.
-pub fn show(register: &[u8], file: &[u8], page: &mut [u8]) -> u64
-    ensures { (result ≡ page_answer register.now file.now page.old) × (page.new ≡ page_after register.now file.now page.old) }
+pub fn show(register: &[u8], file: &[u8], page: &mut [u8]) -> Result<usize, Refusal>
+    ensures answer { result ≡ answer (page_refusal register.now file.now (length page.old)) (length (page_text (end_of register.now file.now))) }
+    ensures page { page.new ≡ page_after register.now file.now page.old }
 {
-    let checked = replay::ready(register, file);
-    let number = checked.number;
-    if number != 0 {
-        return number as u64;
-    }
-    show_played(page, file, checked.core)
+    let core = replay::ready(register, file)?;
+    show_played(page, file, core)
 }

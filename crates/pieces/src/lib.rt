@@ -13,12 +13,7 @@ use plain::{Manner, Piece};
 fn manner_number(manner: Manner) -> u64
     ensures { result ≡ manner_number manner }
 {
-    match manner {
-        Manner::Delivered => 1,
-        Manner::BoughtIn => 2,
-        Manner::Cash => 3,
-        Manner::Paired => 4,
-    }
+    manner as u64 + 1
 }
 
 fn manner_of(number: u64) -> Manner
@@ -32,6 +27,8 @@ fn manner_of(number: u64) -> Manner
     }
 }
 
+// A piece without its cents, which `put_cents` adds: so its parts, and no `Piece`.
+#[tactic(auto, using(crate::proofs::Cells::piece_put))]
 pub fn put_piece(
     sheet: &mut [u64; SHEET_CELLS],
     place: usize,
@@ -43,15 +40,18 @@ pub fn put_piece(
     requires { (length sheet.old ≡ SHEET_CELLS) × (place < PLACES) }
     ensures { PutPiece sheet.old place (unpriced manner short long units) sheet.new }
 {
-    let at = PIECE_WIDTH * place;
-    sheet[at] = short as u64;
-    sheet[at + 1] = long as u64;
-    sheet[at + 2] = units as u64;
-    sheet[at + 3] = manner_number(manner);
-    sheet[at + 4] = 0;
+    let piece = [
+        short as u64,
+        long as u64,
+        units as u64,
+        manner_number(manner),
+        0,
+    ];
+    cells::put_cells(sheet, place, piece);
 }
 
-// The long of a piece, and its units.
+// The long of a piece, and its units: one number of its row each, which is all that a payment asks.
+#[tactic(auto, using(crate::proofs::Cells::piece_is))]
 pub fn long_at(sheet: &[u64; SHEET_CELLS], place: usize) -> u16
     requires { place < PLACES }
     ensures { result ≡ (get_or (pieces_of sheet.now) place no_piece).long }
@@ -59,6 +59,7 @@ pub fn long_at(sheet: &[u64; SHEET_CELLS], place: usize) -> u16
     (sheet[PIECE_WIDTH * place + 1] % 65536) as u16
 }
 
+#[tactic(auto, using(crate::proofs::Cells::piece_is))]
 pub fn units_at(sheet: &[u64; SHEET_CELLS], place: usize) -> u32
     requires { place < PLACES }
     ensures { result ≡ (get_or (pieces_of sheet.now) place no_piece).quantity }
@@ -67,6 +68,7 @@ pub fn units_at(sheet: &[u64; SHEET_CELLS], place: usize) -> u32
 }
 
 // The cents of a piece; the rest of it stays.
+#[tactic(auto, using(crate::proofs::Cells::cents_put))]
 pub fn put_cents(sheet: &mut [u64; SHEET_CELLS], place: usize, cents: u64)
     requires { (length sheet.old ≡ SHEET_CELLS) × (place < PLACES) }
     ensures { PutCents sheet.old place cents sheet.new }
@@ -74,18 +76,19 @@ pub fn put_cents(sheet: &mut [u64; SHEET_CELLS], place: usize, cents: u64)
     sheet[PIECE_WIDTH * place + 4] = cents;
 }
 
+// A number is cut to its field's width before each cast, since here `as` asks that the value fits.
+#[tactic(auto, using(crate::proofs::Cells::piece_taken))]
 pub fn piece_at(sheet: &[u64; SHEET_CELLS], place: usize) -> Piece
     requires { place < PLACES }
     ensures { result ≡ get_or (pieces_of sheet.now) place no_piece }
 {
-    let at = PIECE_WIDTH * place;
-    let manner = manner_of(sheet[at + 3]);
+    let [short, long, units, manner, cents] = cells::cells_at::<u64, PIECE_WIDTH>(sheet, place);
     Piece {
-        short: (sheet[at] % 65536) as u16,
-        long: (sheet[at + 1] % 65536) as u16,
-        quantity: (sheet[at + 2] % 4294967296) as u32,
-        manner,
-        cents: sheet[at + 4],
+        short: (short % 65536) as u16,
+        long: (long % 65536) as u16,
+        quantity: (units % 4294967296) as u32,
+        manner: manner_of(manner),
+        cents,
     }
 }
 
@@ -107,13 +110,7 @@ pub fn blank_pieces() -> [Piece; PLACES]
 pub fn pieces_of(sheet: &[u64; SHEET_CELLS]) -> [Piece; PLACES]
     ensures { result ≡ pieces_of sheet.now }
 {
-    let mut items = blank_pieces();
-    let mut i: usize = 0;
-    while i < PLACES {
-        items[i] = piece_at(sheet, i);
-        i += 1;
-    }
-    items
+    std::array::from_fn(|place| piece_at(sheet, place))
 }
 
 // The numbers of an empty sheet.
@@ -128,20 +125,16 @@ pub fn numbers_of(items: [Piece; PLACES]) -> [u64; SHEET_CELLS]
     ensures { (result ≡ each cells_of items) × (pieces_of result ≡ items) × (length result ≡ SHEET_CELLS) }
 {
     let mut sheet = blank_numbers();
-    let mut i: usize = 0;
-    while i < PLACES {
-        let piece = items[i];
-        let manner = piece.manner;
+    for (i, piece) in items.iter().enumerate() {
         put_piece(
             &mut sheet,
             i,
             piece.short,
             piece.long,
             piece.quantity,
-            manner,
+            piece.manner,
         );
         put_cents(&mut sheet, i, piece.cents);
-        i += 1;
     }
     sheet
 }

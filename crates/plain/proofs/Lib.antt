@@ -26,3 +26,4 @@ pub mod Confirmed
 pub mod Accounts
 pub mod Bound
 pub mod Claim
+pub mod Listed

@@ -1,5 +1,6 @@
 -- The latest price of a security and the day on which it was given: what the accepted prices and closes alone make them, and that an accepted
 -- attempt or cash settlement goes by a price of today.
+use Rattle.std.proofs.Common.{Option, Some}
 use Prim.Native.Nat.{ℕ, ◌-◌, ◌≤◌}
 use native.Mathlib.Omega.{arith}
 use mathlib.Core.Path.{◌≡◌, refl, ap, sym, ◌∙◌}
@@ -14,8 +15,6 @@ use Rattle.events.specs.declared.Event.{Event}
 use Rattle.events.specs.declared.Event.TheVariants as event
 use Rattle.plain.specs.declared.Opening.{Opening}
 use Rattle.plain.specs.declared.Latest.{Latest}
-use Rattle.plain.specs.declared.LatestPrice.{LatestPrice}
-use Rattle.plain.specs.declared.LatestPrice.TheVariants.{Given}
 use Rattle.plain.specs.Book.{Book, new, no_price, given_on, nth, position_of, looked_up, latest_price, price_in}
 use Rattle.plain.specs.Calls.{Call, call, discharged, done}
 use Rattle.plain.specs.Refusals.{is_never, is_given_before, refusal}
@@ -42,11 +41,11 @@ Fitting b = PricesFit b.day b.prices
 module _ (s : ℕ) (known : Within 1 SECURITIES s) where
   -- one more price
   one_more : (prices : List Latest) (security day price : ℕ) → length prices ≡ SECURITIES → 1 ≤ security → 1 ≤ price
-      → looked_up (nth no_price (set prices (security - 1) (given_on day price)) s) ≡ cond (eqb security s) (Given (given_on day price)) (looked_up (nth no_price prices s))
+      → looked_up (nth no_price (set prices (security - 1) (given_on day price)) s) ≡ cond (eqb security s) (Some (given_on day price)) (looked_up (nth no_price prices s))
   one_more prices security day price many first some = go (ask (eqb security s))
     where
       go : Said (eqb security s)
-          → looked_up (nth no_price (set prices (security - 1) (given_on day price)) s) ≡ cond (eqb security s) (Given (given_on day price)) (looked_up (nth no_price prices s))
+          → looked_up (nth no_price (set prices (security - 1) (given_on day price)) s) ≡ cond (eqb security s) (Some (given_on day price)) (looked_up (nth no_price prices s))
       go (passed t) =
           let here = nth_set_same no_price prices s (given_on day price) (record { above = known.above; below = omega (arith, many, known.below) }) in
           rw (t, eqb-true security s t, here, ne_eqb price 0 (λ z. omega (arith, some, z)))
@@ -58,7 +57,7 @@ module _ (s : ℕ) (known : Within 1 SECURITIES s) where
   done_last b (call (event.Trade t) sheet) e h es = refl
   done_last b (call (event.Price p) sheet) e h es =
       let k = price_taken b p sheet e in
-      ap (λ (latest : LatestPrice). last_given s b.day latest es) (one_more b.prices p.security b.day p.price h.many k.security.above k.price.above)
+      ap (λ (latest : Option Latest). last_given s b.day latest es) (one_more b.prices p.security b.day p.price h.many k.security.above k.price.above)
   done_last b (call (event.Delivery d) sheet) e h es = refl
   done_last b (call (event.Attempt a) sheet) e h es = refl
   done_last b (call (event.Offer o) sheet) e h es = refl
@@ -82,15 +81,15 @@ module _ (s : ℕ) (known : Within 1 SECURITIES s) where
 -- A PRICE OF TODAY
 
 of_today : (day : ℕ) (latest : Latest) → is_never (looked_up latest) ≡ false → is_given_before day (looked_up latest) ≡ false → latest.day.0 ≤ day
-    → looked_up latest ≡ Given (given_on day latest.price)
+    → looked_up latest ≡ Some (given_on day latest.price)
 of_today day latest ever late early = go (ask (eqb latest.price 0))
   where
-    go : Said (eqb latest.price 0) → looked_up latest ≡ Given (given_on day latest.price)
+    go : Said (eqb latest.price 0) → looked_up latest ≡ Some (given_on day latest.price)
     go (passed t) = absurd (true≢false (rw t at ever))
     go (failed t) =
         let from : day ≤ latest.day.0 = ltb-false latest.day.0 day (rw t at late) in
         let same : latest.day.0 ≡ day = omega (arith, from, early) in
-        rw t (λ i. Given (given_on (same i) latest.price))
+        rw t (λ i. Some (given_on (same i) latest.price))
 
 passed_today : (b : Book) (s : ℕ) → Fitting b → PricePassed b s → GivenToday b s
 passed_today b s h k =

@@ -1,5 +1,5 @@
 -- Document 01, 'The plain book': what the plain book keeps, and the book as it opens.
-use Rattle.std.specs.Prelude.{ℕ, List, [], ◌∷◌, Bool, false, cond, length, get_or, replicate, eqb}
+use Rattle.std.specs.Prelude.{ℕ, List, [], ◌∷◌, Bool, false, cond, length, get_or, replicate, eqb, None, Option, Some}
 use Rattle.laws.specs.Limits.{ACCOUNTS, SECURITIES}
 use Rattle.laws.specs.Asked.{within}
 use Rattle.register.specs.Register.{register_read}
@@ -7,8 +7,6 @@ use Rattle.events.specs.declared.Trade.{Trade}
 use Rattle.events.specs.declared.Offer.{Offer}
 use Rattle.plain.specs.declared.Opening.{Opening}
 use Rattle.plain.specs.declared.Latest.{Latest}
-use Rattle.plain.specs.declared.LatestPrice.{LatestPrice}
-use Rattle.plain.specs.declared.LatestPrice.TheVariants.{Never, Given}
 use Rattle.plain.specs.declared.Kind.TheVariants.{Own}
 use Rattle.plain.specs.declared.Position.{Position}
 use Rattle.plain.specs.declared.Award.{Award}
@@ -115,13 +113,13 @@ abbrev pub latest_of : Book → ℕ → ℕ
 latest_of b security = (nth no_price b.prices security).price
 
 -- document 02, Slip 3: "The lookup of the latest price shall also tell the day it was given". No price that was given is 0 (13)
-abbrev pub looked_up : Latest → LatestPrice
-looked_up latest = cond (eqb latest.price 0) Never (Given latest)
+abbrev pub looked_up : Latest → Option Latest
+looked_up latest = cond (eqb latest.price 0) None (Some latest)
 
-abbrev pub latest_price : Book → ℕ → LatestPrice
+abbrev pub latest_price : Book → ℕ → Option Latest
 latest_price b security = looked_up (nth no_price b.prices security)
 
 -- the price that a lookup tells, 0 where none was given
-abbrev pub price_in : LatestPrice → ℕ
-price_in Never = 0
-price_in (Given latest) = latest.price
+abbrev pub price_in : Option Latest → ℕ
+price_in None = 0
+price_in (Some latest) = latest.price

@@ -1,5 +1,6 @@
 -- Document 01, 'The plain book': calls one after the other. "A refused call changes nothing."
-use Rattle.std.specs.Prelude.{ℕ, suc, ◌+◌, List, [], ◌∷◌, ◌++◌, map, get_or, ℤ, eqb, cond}
+use Rattle.plain.specs.declared.Latest.{Latest}
+use Rattle.std.specs.Prelude.{ℕ, suc, ◌+◌, List, [], ◌∷◌, ◌++◌, map, get_or, ℤ, eqb, cond, None, Option, Some}
 use Rattle.std.proofs.Math.IntN.{sub_ℕ}
 use Rattle.laws.specs.Limits.{PLACES}
 use Rattle.laws.specs.Refusals.{accepted}
@@ -8,8 +9,6 @@ use Rattle.events.specs.declared.Offer.{Offer}
 use Rattle.events.specs.declared.Event.{Event}
 use Rattle.events.specs.declared.Event.TheVariants as event
 use Rattle.plain.specs.declared.Opening.{Opening}
-use Rattle.plain.specs.declared.LatestPrice.{LatestPrice}
-use Rattle.plain.specs.declared.LatestPrice.TheVariants.{Never, Given}
 use Rattle.plain.specs.declared.Position.{Position}
 use Rattle.plain.specs.declared.Piece.{Piece}
 use Rattle.plain.specs.Book.{Book, first_day, given_on, new}
@@ -109,11 +108,11 @@ abbrev pub trades_on : Opening → List Event → ℕ → List Trade
 trades_on opening es d = traded_on d (first_day opening) [] es
 
 -- the latest price of a security that the accepted prices and closes alone make, from a day and what was given up to then
-unfoldable pub last_given : ℕ → ℕ → LatestPrice → List Event → LatestPrice
+unfoldable pub last_given : ℕ → ℕ → Option Latest → List Event → Option Latest
 last_given security day latest [] = latest
 last_given security day latest (event.Trade t ∷ es) = last_given security day latest es
 last_given security day latest (event.Price p ∷ es) =
-    let given = cond (eqb p.security security) (Given (given_on day p.price)) latest in
+    let given = cond (eqb p.security security) (Some (given_on day p.price)) latest in
     last_given security day given es
 last_given security day latest (event.Delivery d ∷ es) = last_given security day latest es
 last_given security day latest (event.Attempt a ∷ es) = last_given security day latest es
@@ -125,8 +124,8 @@ last_given security day latest (event.Close ∷ es) = last_given security (suc d
 last_given security day latest (event.PairOff x ∷ es) = last_given security day latest es
 
 -- that which they make of a new book
-abbrev pub latest_by : Opening → List Event → ℕ → LatestPrice
-latest_by opening es security = last_given security (first_day opening) Never es
+abbrev pub latest_by : Opening → List Event → ℕ → Option Latest
+latest_by opening es security = last_given security (first_day opening) None es
 
 -- the offers of the running auction that the accepted attempts, offers and awards alone make, from those that were in up to then
 unfoldable pub offered : List Offer → List Event → List Offer

@@ -1,5 +1,5 @@
 -- What holds of every book that a history reaches, part by part. The parts are stated over what they speak of, so that a call that leaves it as it was keeps them as they are.
-use Rattle.std.specs.Prelude.{ℕ, suc, ◌+◌, ◌-◌, ◌≤◌, ◌<◌, ◌≡◌, List, [], ◌∷◌, Bool, true, false, ◌&&◌, length, get_or, eqb}
+use Rattle.std.specs.Prelude.{ℕ, suc, ◌+◌, ◌-◌, ◌≤◌, ◌<◌, ◌≡◌, List, [], ◌∷◌, Bool, true, false, ◌&&◌, length, get_or, eqb, Some}
 use Rattle.laws.specs.Limits.{MEMBERS, MOST_QUANTITY, MOST_PRICE, MOST_NETTED}
 use Rattle.laws.specs.Lists.{All, only, sum}
 use Rattle.events.specs.declared.Trade.{Trade}
@@ -8,7 +8,6 @@ use Rattle.events.specs.declared.Offer.{Offer}
 use Rattle.events.specs.declared.Cash as asked
 use Rattle.events.specs.declared.Event.{Event}
 use Rattle.events.specs.declared.Event.TheVariants as event
-use Rattle.plain.specs.declared.LatestPrice.TheVariants.{Given}
 use Rattle.plain.specs.declared.Kind.TheVariants.{Client}
 use Rattle.plain.specs.declared.Position.{Position}
 use Rattle.plain.specs.declared.Piece.{Piece}
@@ -91,7 +90,7 @@ pub data NeedsPrice : Event → ℕ → Type 0 where
 
 -- the latest price of a security was given today
 abbrev pub GivenToday : Book → ℕ → Type 0
-GivenToday b security = latest_price b security ≡ Given (given_on b.day (latest_of b security))
+GivenToday b security = latest_price b security ≡ Some (given_on b.day (latest_of b security))
 
 -- the units that pieces take from position n as their long
 abbrev pub as_long : ℕ → List Piece → ℕ

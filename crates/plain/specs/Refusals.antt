@@ -1,6 +1,7 @@
 -- Document 01, 'Why a call is turned down', 8 to 26, and document 02, 32 to 34: each reason over the values that it looks at, the reasons of each call
 -- in the order of the papers' list, and what they say on the plain book. A reason is named after what turns the call down.
-use Rattle.std.specs.Prelude.{ℕ, ◌+◌, ◌-◌, List, [], ◌∷◌, ◌++◌, Bool, true, false, not, ◌&&◌, length, ltb, leb, eqb}
+use Rattle.plain.specs.declared.Latest.{Latest}
+use Rattle.std.specs.Prelude.{ℕ, ◌+◌, ◌-◌, List, [], ◌∷◌, ◌++◌, Bool, true, false, not, ◌&&◌, length, ltb, leb, eqb, None, Option, Some}
 use Rattle.laws.specs.Asked.{within}
 use Rattle.laws.specs.Limits.{MEMBERS, MOST_QUANTITY, MOST_PRICE, TRADES, PLACES, ATTEMPTS, OFFERS, LAST_DAY}
 use Rattle.laws.specs.Lists.{some}
@@ -14,8 +15,6 @@ use Rattle.events.specs.declared.Delivery.{Delivery}
 use Rattle.events.specs.declared.Offer.{Offer}
 use Rattle.events.specs.declared.PairOff.{PairOff}
 use Rattle.events.specs.declared.Event.TheVariants as event
-use Rattle.plain.specs.declared.LatestPrice.{LatestPrice}
-use Rattle.plain.specs.declared.LatestPrice.TheVariants.{Never, Given}
 use Rattle.plain.specs.declared.Kind.TheVariants.{Client}
 use Rattle.plain.specs.declared.Position.{Position}
 use Rattle.plain.specs.declared.Award.{Award}
@@ -126,19 +125,19 @@ abbrev pub no_auction_on_this : ℕ → ℕ → Reason
 no_auction_on_this auction n = not (runs_on auction n) ⇒ 18
 
 -- 19. "The security never had a price (attempt, cash)."
-abbrev pub is_never : LatestPrice → Bool
-is_never Never = true
-is_never (Given latest) = false
+abbrev pub is_never : Option Latest → Bool
+is_never None = true
+is_never (Some latest) = false
 
-abbrev pub never_priced : LatestPrice → Reason
+abbrev pub never_priced : Option Latest → Reason
 never_priced latest = is_never latest ⇒ 19
 
 -- 32. "It refuses with 32, after 19, an attempt or cash whose latest price was given before today." (document 02, Slip 3)
-abbrev pub is_given_before : ℕ → LatestPrice → Bool
-is_given_before day Never = false
-is_given_before day (Given latest) = ltb latest.day.0 day
+abbrev pub is_given_before : ℕ → Option Latest → Bool
+is_given_before day None = false
+is_given_before day (Some latest) = ltb latest.day.0 day
 
-abbrev pub old_price : ℕ → LatestPrice → Reason
+abbrev pub old_price : ℕ → Option Latest → Reason
 old_price day latest = is_given_before day latest ⇒ 32
 
 -- 20. "Sixteen attempts were opened today, or one on this short." Of an attempt.
@@ -232,7 +231,7 @@ unfoldable pub confirm_reasons : Award → List Reason
 confirm_reasons award = confirmed_already award ∷ []
 
 -- a cash settlement's after them: of its position, the day, the step that today allows on the position, and the latest price of its security
-unfoldable pub cash_reasons : Position → ℕ → Step → LatestPrice → List Reason
+unfoldable pub cash_reasons : Position → ℕ → Step → Option Latest → List Reason
 cash_reasons p day today latest =
     is_long p
     ∷ outside_window step.Cash today
@@ -243,7 +242,7 @@ cash_reasons p day today latest =
 
 -- an attempt's after 11: of its position, the day, the step that today allows on the position, the auction's position, the latest price of its
 -- security, how many attempts were opened today, and whether one was on this position
-unfoldable pub attempt_reasons : Position → ℕ → Step → ℕ → LatestPrice → ℕ → Bool → List Reason
+unfoldable pub attempt_reasons : Position → ℕ → Step → ℕ → Option Latest → ℕ → Bool → List Reason
 attempt_reasons p day today auction latest attempts marked =
     is_long p
     ∷ outside_window step.Attempt today

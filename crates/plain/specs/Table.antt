@@ -1,7 +1,7 @@
 -- The starred lines of document 01, 'Edges and a squeeze', the player's example, and edges of document 02: one table of values by the definitions
 -- and values expected.
 -- Every row holds, by computation.
-use Rattle.std.specs.Prelude.{ℕ, ◌+◌, ◌≡◌, refl, true, false, replicate, pos, neg_ℤ}
+use Rattle.std.specs.Prelude.{ℕ, ◌+◌, ◌≡◌, refl, true, false, replicate, pos, neg_ℤ, None, Some}
 use Rattle.std.proofs.Common.{arith}
 use mathlib.Core.List.{List, [], ◌∷◌, ◌++◌, map, zip_with}
 use Rattle.laws.specs.Limits.{ACCOUNTS}
@@ -14,7 +14,6 @@ use Rattle.rules.specs.Charges.{rounded_half_up, fee, cash_fee, award_fine, late
 use Rattle.register.specs.Isin.{isin}
 use Rattle.register.specs.Register.{register_read}
 use Rattle.register.specs.Register as check
-use Rattle.plain.specs.declared.LatestPrice.TheVariants.{Never, Given}
 use Rattle.plain.specs.declared.Position.{Position}
 use Rattle.plain.specs.declared.Award.{Award}
 use Rattle.plain.specs.declared.Piece.{Piece}
@@ -117,8 +116,8 @@ table =
     ∷ (refusals one_share old_prices is (replicate 8 0 ++ 19 ∷ 0 ∷ 0 ∷ 32 ∷ 0 ∷ 0 ∷ 0 ∷ 32 ∷ 0 ∷ []))
     ∷ (map (λ c. c.cents) (all_charges one_share old_prices) is (11 ∷ 11 ∷ 12 ∷ 12 ∷ []))
     -- "The lookup of the latest price shall also tell the day it was given"
-    ∷ (latest_price one_share 1 is Never)
-    ∷ (latest_price (run one_share old_prices) 1 is Given (given_on 10 1200))
+    ∷ (latest_price one_share 1 is None)
+    ∷ (latest_price (run one_share old_prices) 1 is Some (given_on 10 1200))
     -- nothing is open: 32 comes before 24
     ∷ (refusals one_share all_delivered is (replicate 13 0 ++ 32 ∷ 0 ∷ 24 ∷ []))
     -- "All pieces of one cash settlement now use the highest among the short's reference price, the latest price doubled (class 3: plus 300 cents) and

@@ -1,5 +1,7 @@
-// The values that the plain book and the machine's book share. It has no function.
+// The values that the plain book and the machine's book share.
 #![tactic(auto)]
+
+ghost use Rattle.std.specs.Prelude.{◌≡◌};
 
 use laws::{ACCOUNTS, BusinessDay};
 use register::Register;
@@ -10,25 +12,29 @@ pub struct Opening {
     pub register: Register,
 }
 
-// The latest price of a security and the day on which it was given; price 0 where it never had one.
+// The latest price of a security and the day on which it was given. In a table price 0 stands for none; a lookup answers an `Option`.
 #[derive(Clone, Copy)]
 pub struct Latest {
     pub price: u32,
     pub day: BusinessDay,
 }
 
-// What the lookup of a security's latest price answers.
-#[derive(Clone, Copy)]
-pub enum LatestPrice {
-    Never,
-    Given(Latest),
+// The kind of business that a side of a trade, and a position, belongs to: a member's own or its clients'.
+#[derive(Clone, Copy, PartialEq, Eq)]
+pub enum Kind {
+    Own = 0,
+    Client = 1,
 }
 
-// The kind of business that a side of a trade, and a position, belongs to: a member's own or its clients'.
-#[derive(Clone, Copy)]
-pub enum Kind {
-    Own,
-    Client,
+// The number of a kind, as a trade has it: 0 own, 1 client.
+impl From<Kind> for u8 {
+    ghost use Rattle.plain.specs.Netting.{kind_number};
+
+    ghost from_gives = { λ kind n. n ≡ kind_number kind };
+
+    fn from(kind: Kind) -> u8 {
+        kind as u8
+    }
 }
 
 // A member's netted quantity of a security in business of one kind, short or long.
@@ -83,16 +89,10 @@ pub struct Award {
     pub confirmed: bool,
 }
 
-// The accounts 0 to 63 as the cents that each was credited and debited in all: its balance is the difference.
+// The accounts 0 to 63 as the cents that each was credited and debited in all: its balance is the difference. Two columns, as the definitions of charges
+// raise them (`raise`, `Places`).
 #[derive(Clone, Copy)]
 pub struct Ledger {
     pub credits: [u64; ACCOUNTS],
     pub debits: [u64; ACCOUNTS],
-}
-
-// What a call answers: its quantity, or the number of its refusal.
-#[derive(Clone, Copy)]
-pub enum Outcome {
-    Done(u32),
-    Refused(u8),
 }

@@ -9,7 +9,7 @@ use lib.Seq.{take_all, take-nil}
 use Rattle.events.specs.declared.Event.{Event}
 use Rattle.files.specs.File.{events_of}
 use Rattle.machine.specs.declared.Core.{Core}
-use Rattle.machine.specs.View.{Numbers}
+use Rattle.machine.specs.declared.Numbers.{Numbers}
 use Rattle.replay.specs.Replay.{PlayedUpTo}
 use Rattle.replay.proofs.Playing.{then_played}
 use Rattle.report.specs.Pages.{Wrote, wrote_put, put_length}

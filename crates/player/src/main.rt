@@ -6,16 +6,16 @@
 ghost use Rattle.std.specs.Prelude.{◌≤◌, ◌≡◌, length};
 ghost use Rattle.laws.specs.Limits.{SHEET_CELLS};
 ghost use Rattle.files.specs.File.{events_of};
-ghost use Rattle.ledger.specs.Posts.{ledger_of};
-ghost use Rattle.machine.specs.View.{Numbers, numbers, on_rows, on_ledger, Held};
-ghost use Rattle.replay.specs.Replay.{PlayedUpTo, NewlyHeld};
+ghost use Rattle.machine.specs.declared.Numbers.{Numbers};
+ghost use Rattle.machine.specs.View.{on_rows, on_ledger, Held};
+ghost use Rattle.calls.specs.Opening.{NewlyHeld};
+ghost use Rattle.replay.specs.Replay.{PlayedUpTo};
 ghost use Rattle.transcript.specs.Cut.{INPUT};
 ghost use Rattle.transcript.specs.Playing.{END};
 
-use calls::Core;
-use laws::{
-    ACCOUNTS, AWARD_CELLS, COUNT_CELLS, POSITION_CELLS, SECURITIES, SHEET_CELLS, TRADE_CELLS,
-};
+use calls::{Core, Numbers};
+use laws::{POSITION_CELLS, Refusal, SHEET_CELLS};
+use plain::Ledger;
 use transcript::{END, INPUT};
 
 // The descriptors of the three standard streams.
@@ -47,56 +47,40 @@ fn print_page(page: &[u8], used: usize)
     }
 }
 
-fn print_refusal(number: u8) {
+fn print_refusal(refusal: Refusal) {
     let mut page = blank_page();
-    let used = report::refusal_line(&mut page, number);
+    let used = report::refusal_line(&mut page, u8::from(refusal));
     print_page(&page, used);
 }
 
-// Prints all events of a file, page by page, each on the lent tables. The core after them is answered.
+// Prints all events of a file, page by page, each on the lent tables. The core after them is answered. How far a page goes is told by the call, so the loop
+// counts no index.
 fn print_events(
     page: &mut [u8],
     file: &[u8],
     core: Core,
-    rows: &mut [u32; POSITION_CELLS],
-    trades: &mut [u32; TRADE_CELLS],
-    awards: &mut [u32; AWARD_CELLS],
-    counts: &mut [u32; COUNT_CELLS],
-    starts: &mut [usize; SECURITIES],
-    words: &mut [u64; SECURITIES],
-    credits: &mut [u64; ACCOUNTS],
-    debits: &mut [u64; ACCOUNTS],
+    lent: &mut Numbers,
     sheet: &mut [u64; SHEET_CELLS],
 ) -> Core
-    requires { (Held core (numbers rows.old trades.old awards.old counts.old starts.old words.old (ledger_of credits.old debits.old))) × (length sheet.old ≡ SHEET_CELLS) × (length page.old ≡ END) }
-    ensures { (PlayedUpTo core (numbers rows.old trades.old awards.old counts.old starts.old words.old (ledger_of credits.old debits.old)) (events_of file.now) result (numbers rows.new trades.new awards.new counts.new starts.new words.new (ledger_of credits.new debits.new))) × (length page.new ≡ END) }
+    requires { (Held core lent.old) × (length sheet.old ≡ SHEET_CELLS) × (length page.old ≡ END) }
+    ensures { (PlayedUpTo core lent.old (events_of file.now) result lent.new) × (length page.new ≡ END) }
 {
     let count = files::events_in(file) as usize;
     let mut played = core;
     let mut i: usize = 0;
     while i < count {
-        let some = transcript::play_events(
-            page, file, played, rows, trades, awards, counts, starts, words, credits, debits,
-            sheet, i,
-        );
+        let some = transcript::play_events(page, file, played, lent, sheet, i);
         print_page(page, some.used);
-        let after = some.core;
-        played = after;
+        played = some.core;
         i = some.next;
     }
     played
 }
 
-fn print_end(
-    page: &mut [u8],
-    core: Core,
-    rows: &[u32; POSITION_CELLS],
-    credits: &[u64; ACCOUNTS],
-    debits: &[u64; ACCOUNTS],
-)
-    requires { ((others : Numbers) × Held core (on_ledger (on_rows others rows.now) (ledger_of credits.now debits.now))) × (length page.old ≡ END) }
+fn print_end(page: &mut [u8], core: Core, rows: &[u32; POSITION_CELLS], ledger: &Ledger)
+    requires { ((others : Numbers) × Held core (on_ledger (on_rows others rows.now) ledger.now)) × (length page.old ≡ END) }
 {
-    let used = transcript::end_lines(page, core, rows, credits, debits);
+    let used = transcript::end_lines(page, core, rows, ledger);
     print_page(page, used);
 }
 
@@ -105,42 +89,17 @@ fn print_played(file: &[u8], core: Core)
     requires { NewlyHeld core }
 {
     let mut page = blank_page();
-    let mut rows = calls::blank_rows();
-    let mut trades = calls::blank_trades();
-    let mut awards = calls::blank_awards();
-    let mut counts = calls::no_counts();
-    let mut starts = calls::no_starts();
-    let mut words = calls::no_words();
-    let mut credits = calls::no_cents();
-    let mut debits = calls::no_cents();
+    let mut lent = calls::new_numbers();
     let mut sheet = pieces::blank_numbers();
-    let after = print_events(
-        &mut page,
-        file,
-        core,
-        &mut rows,
-        &mut trades,
-        &mut awards,
-        &mut counts,
-        &mut starts,
-        &mut words,
-        &mut credits,
-        &mut debits,
-        &mut sheet,
-    );
-    print_end(&mut page, after, &rows, &credits, &debits);
+    let after = print_events(&mut page, file, core, &mut lent, &mut sheet);
+    print_end(&mut page, after, &lent.rows, &lent.ledger);
 }
 
 fn print_transcript(input: &[u8]) {
-    let started = transcript::start(input);
-    let number = started.number;
-    if number != 0 {
-        print_refusal(number);
-        return;
+    match transcript::start(input) {
+        Ok(started) => print_played(&input[started.file..], started.core),
+        Err(refusal) => print_refusal(refusal),
     }
-    let file = started.file;
-    let core = started.core;
-    print_played(&input[file..], core);
 }
 
 // The largest input that is not refused has 35,238 bytes. Of a longer one the first `INPUT` print the same (`transcript/specs/Cut.antt`).

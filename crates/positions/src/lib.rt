@@ -20,16 +20,10 @@ pub struct Left {
 fn share_of(p: Position, security: u16, left: u32) -> u32
     ensures { result ≡ spec.share_of security left p }
 {
-    if p.short {
-        return 0;
-    }
-    if p.security != security {
-        return 0;
-    }
-    if p.unsettled <= left {
-        p.unsettled
+    if !p.short && p.security == security {
+        p.unsettled.min(left)
     } else {
-        left
+        0
     }
 }
 
@@ -54,6 +48,7 @@ pub fn deal(
     let mut dealt: usize = 0;
     let mut left = quantity;
     let mut i = start;
+    // a nested walk left by a label, whose loops move one place: document 01, 'The forms we expect', names this form
     'deal: while i < count {
         let settlement = rows::settlement_at(rows, i);
         if day.0 < settlement {

@@ -1,4 +1,6 @@
 -- What the last event answers, and what is answered of it as one number.
+use Rattle.std.proofs.Common.{Ok, Err}
+use Rattle.laws.specs.declared.Refusal.{Refusal}
 use Prim.Native.Nat.{ℕ, ◌-◌, ◌≤◌, ◌<◌}
 use native.Mathlib.Omega.{arith}
 use mathlib.Core.Path.{◌≡◌, ap, ap₂, sym, ◌∙◌, subst}
@@ -12,13 +14,11 @@ use Rattle.laws.specs.Refusals.{accepted_zero, accepted_not}
 use Rattle.events.specs.declared.Event.{Event}
 use Rattle.files.specs.File.{events_of}
 use Rattle.plain.specs.declared.Piece.{Piece}
-use Rattle.plain.specs.declared.Outcome.{Outcome}
-use Rattle.plain.specs.declared.Outcome.TheVariants as outcome
+use Rattle.laws.specs.Answers.{Outcome, answer, number, number_in, number_some, quantity_of}
 use Rattle.plain.specs.Book as plain
 use Rattle.plain.specs.Calls.{call}
 use Rattle.plain.specs.Refusals.{refusal}
 use Rattle.plain.specs.Histories.{quantity}
-use Rattle.kept.specs.View.{answer, number_of, quantity_of}
 use Rattle.machine.specs.Answers.{answered_number, answered_quantity}
 use Rattle.book.specs.declared.Book.{Book}
 use Rattle.book.specs.View.{view, Returned}
@@ -28,7 +28,7 @@ use Rattle.transcript.specs.Transcript.{input_refusal, opened, events_in}
 use Rattle.transcript.specs.Playing.{StartedOn}
 use Rattle.transcript.proofs.Ready.{back}
 use Rattle.answers.specs.Packed.{packed}
-use Rattle.probe.specs.Last.{after_closes, last_event, last_call, before_last, last_quantity, LastAnswered, number_for, quantity_for}
+use Rattle.probe.specs.Last.{after_closes, last_event, last_call, before_last, last_number, last_quantity, LastAnswered, number_for, quantity_for}
 
 -- what an event answered on a sheet of 1,024 places, it answers on any longer one
 pub on_longer : (b after : Book) (e : Event) (long places : ℕ) (o : Outcome) (xs : List Piece) → long ≡ 1024 → 1024 ≤ places → Returned b (call e long) after o xs
@@ -38,7 +38,7 @@ on_longer b after e long places o xs is h r =
 
 module _ (b : plain.Book) (closes : ℕ) (events : List Event) (sheet : ℕ) where
   -- where there is no event, 0
-  pub last_none : length events ≡ 0 → LastAnswered b closes events sheet (outcome.Done 0)
+  pub last_none : length events ≡ 0 → LastAnswered b closes events sheet (Ok 0)
   last_none e = rw (le-ltb 0 (length events) (omega (arith, e)))
 
   pub last_some : 0 < length events → (o : Outcome) (p : plain.Book) (e : Event) → p ≡ before_last (after_closes b closes) events
@@ -57,21 +57,27 @@ last_quantity_lem b closes events sheet o e = go (ask (ltb 0 (length events)))
         rw p (answered_quantity (before_last (after_closes b closes) events) (last_call events sheet) o (rw p at e))
     go (failed p) = rw p (ap quantity_of (rw p at e))
 
--- what the last event of an input answers, as one number
-module _ (input : List ℕ) (closes sheet : ℕ) (r : Started) (s : StartedOn input r) where
-  pub refused_input : (r.number ≡ 0 → ⊥) → packed r.number 0 ≡ packed (number_for input closes sheet) (quantity_for input closes sheet)
-  unfolding number_for quantity_for
-  refused_input h =
-      let n : input_refusal input ≢ 0 = λ z. h (s.number ∙ z) in
-      ap₂ packed (s.number ∙ sym (accepted_not (input_refusal input) _ _ n)) (sym (accepted_not (input_refusal input) _ _ n))
+last_number_lem : (b : plain.Book) (closes : ℕ) (events : List Event) (sheet : ℕ) (o : Outcome) → LastAnswered b closes events sheet o → number_in o ≡ last_number b closes events sheet
+last_number_lem b closes events sheet o e = go (ask (ltb 0 (length events)))
+  where
+    go : Said (ltb 0 (length events)) → number_in o ≡ last_number b closes events sheet
+    go (passed p) = rw p (answered_number (before_last (after_closes b closes) events) (last_call events sheet) o (rw p at e))
+    go (failed p) = rw p (ap number_in (rw p at e))
 
-  pub last_packed : r.number ≡ 0 → (o : Outcome) → LastAnswered (opened input) closes (events_of (take (length input - r.file) (drop r.file input))) sheet o
-      → packed (number_of o) (quantity_of o) ≡ packed (number_for input closes sheet) (quantity_for input closes sheet)
-  unfolding number_for quantity_for
-  last_packed e o k =
-      let zero : input_refusal input ≡ 0 = sym s.number ∙ e in
-      let same : LastAnswered (opened input) closes (events_in input) sheet o =
-      subst (λ (l : List ℕ). LastAnswered (opened input) closes (events_of l) sheet o) (back input r.file s.file) k in
-      ap₂ packed
-      (answered_number o _ _ same ∙ sym (accepted_zero (input_refusal input) _ _ zero))
-      (last_quantity_lem (opened input) closes (events_in input) sheet o same ∙ sym (accepted_zero (input_refusal input) _ _ zero))
+-- what the last event of an input answers, as one number
+pub refused_input : (input : List ℕ) (closes sheet : ℕ) (r : Refusal) → StartedOn input (Err r) → packed (number r) 0 ≡ packed (number_for input closes sheet) (quantity_for input closes sheet)
+unfolding number_for quantity_for
+refused_input input closes sheet r on =
+    let n : input_refusal input ≢ 0 = λ z. number_some r (on.number ∙ z) in
+    ap₂ packed (on.number ∙ sym (accepted_not (input_refusal input) _ _ n)) (sym (accepted_not (input_refusal input) _ _ n))
+
+pub last_packed : (input : List ℕ) (closes sheet : ℕ) (s : Started) → StartedOn input (Ok s) → (o : Outcome) → LastAnswered (opened input) closes (events_of (take (length input - s.file) (drop s.file input))) sheet o
+    → packed (number_in o) (quantity_of o) ≡ packed (number_for input closes sheet) (quantity_for input closes sheet)
+unfolding number_for quantity_for
+last_packed input closes sheet s on o k =
+    let zero : input_refusal input ≡ 0 = sym on.number in
+    let same : LastAnswered (opened input) closes (events_in input) sheet o =
+    subst (λ (l : List ℕ). LastAnswered (opened input) closes (events_of l) sheet o) (back input s.file on.ready.file) k in
+    ap₂ packed
+    (last_number_lem (opened input) closes (events_in input) sheet o same ∙ sym (accepted_zero (input_refusal input) _ _ zero))
+    (last_quantity_lem (opened input) closes (events_in input) sheet o same ∙ sym (accepted_zero (input_refusal input) _ _ zero))

@@ -11,19 +11,20 @@ use Rattle.plain.specs.Book.{opening_read, new}
 use Rattle.plain.specs.Histories.{run, calls_of}
 use Rattle.reading.specs.Reading.{price_answer}
 use Rattle.book.specs.View.{view}
-use Rattle.replay.specs.declared.Replayed.{Replayed}
+use Rattle.std.proofs.Common.{Ok, Err}
+use Rattle.laws.specs.Answers.{number, number_some}
+use Rattle.laws.specs.declared.Refusal.{Refusal}
+use Rattle.book.specs.declared.Book.{Book}
 use Rattle.replay.specs.Replay.{replay_refusal, ReplayedFrom}
 use Rattle.probe.specs.Latest.{answer_number, latest_for}
 
-module _ (register file : List ℕ) (security : ℕ) (r : Replayed) (h : ReplayedFrom register file r) where
-  pub refused_latest : r.number ≢ 0 → r.number ≡ latest_for register file security
+module _ (register file : List ℕ) (security : ℕ) where
+  pub refused_latest : (r : Refusal) → ReplayedFrom register file (Err r) → number r ≡ latest_for register file security
   unfolding latest_for
-  refused_latest some = h.number ∙ sym (accepted_not (replay_refusal register file) _ _ (λ z. some (h.number ∙ z)))
+  refused_latest r h = h.number ∙ sym (accepted_not (replay_refusal register file) _ _ (λ z. number_some r (h.number ∙ z)))
 
-  pub read_latest : r.number ≡ 0 → answer_number (price_answer (view r.book) security) ≡ latest_for register file security
+  pub read_latest : (b : Book) → ReplayedFrom register file (Ok b) → answer_number (price_answer (view b) security) ≡ latest_for register file security
   unfolding latest_for
-  read_latest none =
-      let played : view r.book ≡ run (new (opening_read register)) (calls_of (events_of file)) =
-      h.book ∙ ap (λ (cs : List Call). run (new (opening_read register)) cs) (accepted_zero r.number (calls_of (events_of file)) [] none) in
-      ap (λ (b : plain.Book). answer_number (price_answer b security)) played
-      ∙ sym (accepted_zero (replay_refusal register file) _ _ (sym h.number ∙ none))
+  read_latest b h =
+      ap (λ (p : plain.Book). answer_number (price_answer p security)) h.replayed.book
+      ∙ sym (accepted_zero (replay_refusal register file) _ _ (sym h.number))

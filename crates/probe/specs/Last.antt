@@ -8,12 +8,11 @@ use Rattle.laws.specs.Lists.{only}
 use Rattle.laws.specs.Refusals.{accepted}
 use Rattle.events.specs.declared.Event.{Event}
 use Rattle.events.specs.declared.Event.TheVariants as event
-use Rattle.plain.specs.declared.Outcome.{Outcome}
+use Rattle.laws.specs.Answers.{Outcome, answer}
 use Rattle.plain.specs.Book.{Book}
 use Rattle.plain.specs.Calls.{Call, call}
 use Rattle.plain.specs.Refusals.{refusal}
 use Rattle.plain.specs.Histories.{run, quantity, calls_of}
-use Rattle.kept.specs.View.{answer}
 use Rattle.transcript.specs.Transcript.{input_refusal, opened, events_in, event_text, events_text}
 use Rattle.transcript.specs.Texts.{text_more}
 

@@ -11,7 +11,7 @@ use borrow.Author.Tests.{lt-ltb, le-ltb}
 use Rattle.laws.specs.Asked.{within, both_bounds}
 use Rattle.plain.specs.Book.{nth, there}
 use Rattle.plain.proofs.Numbered.{nth_take}
-use Rattle.reading.specs.declared.BalanceAnswer.TheVariants as balance
+use Rattle.rules.specs.declared.Amount.TheVariants.{Debit, Credit}
 use Rattle.reading.specs.Reading.{signed}
 
 module _ {A : Type 0} (none : A) (items : List A) (count n : ℕ) (fits : count ≤ length items) where
@@ -22,8 +22,8 @@ module _ {A : Type 0} (none : A) (items : List A) (count n : ℕ) (fits : count 
   found e = nth_take none items count n (both_bounds 1 count n e)
 
 -- a difference of two numbers by its sign
-pub credit_is : (a b : ℕ) → b ≤ a → signed (sub_ℕ a b) ≡ balance.Credit (a - b)
+pub credit_is : (a b : ℕ) → b ≤ a → signed (sub_ℕ a b) ≡ Credit (a - b)
 credit_is a b h = rw (le-ltb a b h)
 
-pub debit_is : (a b : ℕ) → a < b → signed (sub_ℕ a b) ≡ balance.Debit (b - a)
-debit_is a b h = rw (lt-ltb a b h) (ap balance.Debit (let e : suc (b - suc a) ≡ b - a = omega arith in e))
+pub debit_is : (a b : ℕ) → a < b → signed (sub_ℕ a b) ≡ Debit (b - a)
+debit_is a b h = rw (lt-ltb a b h) (ap Debit (let e : suc (b - suc a) ≡ b - a = omega arith in e))

@@ -3,41 +3,14 @@
 
 ghost use Rattle.std.specs.Prelude.{◌≡◌};
 ghost use Rattle.reading.specs.Reading.{position_answer, award_answer, price_answer, balance_answer};
-ghost use Rattle.ledger.specs.Posts.{ledger_of};
 ghost use Rattle.machine.specs.declared.Core.{Core};
-ghost use Rattle.machine.specs.View.{Numbers, on_rows, on_awards, on_ledger, book_of, Held};
+ghost use Rattle.machine.specs.declared.Numbers.{Numbers};
+ghost use Rattle.machine.specs.View.{on_rows, on_awards, on_ledger, book_of, Held};
 
-use laws::{ACCOUNTS, AWARD_CELLS, BusinessDay, MEMBERS, POSITION_CELLS};
+use laws::{AWARD_CELLS, BusinessDay, MEMBERS, POSITION_CELLS, Refusal};
 use machine::{Core, latest_of};
-use plain::{Award, LatestPrice, Position};
-use refusals::{NO_MEMBER, NOT_REGISTERED, NOT_THERE};
-
-// What the reads answer: what was asked for, or the number of a refusal.
-#[derive(Clone, Copy)]
-pub enum PositionAnswer {
-    Found(Position),
-    Refused(u8),
-}
-
-#[derive(Clone, Copy)]
-pub enum AwardAnswer {
-    Found(Award),
-    Refused(u8),
-}
-
-#[derive(Clone, Copy)]
-pub enum PriceAnswer {
-    Found(LatestPrice),
-    Refused(u8),
-}
-
-// A balance in cents, by its sign.
-#[derive(Clone, Copy)]
-pub enum BalanceAnswer {
-    Credit(u64),
-    Debit(u64),
-    Refused(u8),
-}
+use plain::{Award, Latest, Ledger, Position};
+use rules::Amount;
 
 pub fn day(core: Core) -> BusinessDay
     ensures { result ≡ core.day }
@@ -49,9 +22,7 @@ pub fn day(core: Core) -> BusinessDay
 pub fn isins(core: Core) -> [u8; 384]
     ensures { result ≡ core.opening.register.isins }
 {
-    let opening = core.opening;
-    let register = opening.register;
-    register.isins
+    core.opening.register.isins
 }
 
 pub fn position_count(core: Core) -> usize
@@ -60,54 +31,51 @@ pub fn position_count(core: Core) -> usize
     core.positions
 }
 
-pub fn position(core: Core, rows: &[u32; POSITION_CELLS], number: u16) -> PositionAnswer
+pub fn position(core: Core, rows: &[u32; POSITION_CELLS], number: u16) -> Result<Position, Refusal>
     requires { (others : Numbers) × Held core (on_rows others rows.now) }
     ensures { (others : Numbers) → Held core (on_rows others rows.now) → result ≡ position_answer (book_of core (on_rows others rows.now)) number }
 {
     let n = number as usize;
     if !refusals::is_within(1, core.positions, n) {
-        return PositionAnswer::Refused(NOT_THERE);
+        return Err(Refusal::NotThere);
     }
-    let found = rows::row_at(rows, n - 1);
-    PositionAnswer::Found(found)
+    Ok(rows::row_at(rows, n - 1))
 }
 
-pub fn award_at(core: Core, awards: &[u32; AWARD_CELLS], number: u16) -> AwardAnswer
+pub fn award_at(core: Core, awards: &[u32; AWARD_CELLS], number: u16) -> Result<Award, Refusal>
     requires { (others : Numbers) × Held core (on_awards others awards.now) }
     ensures { (others : Numbers) → Held core (on_awards others awards.now) → result ≡ award_answer (book_of core (on_awards others awards.now)) number }
 {
     let n = number as usize;
     if !refusals::is_within(1, core.awards, n) {
-        return AwardAnswer::Refused(NOT_THERE);
+        return Err(Refusal::NotThere);
     }
-    let found = rows::award_at(awards, n - 1);
-    AwardAnswer::Found(found)
+    Ok(rows::award_at(awards, n - 1))
 }
 
 // The latest price of a security, of any age, and the day on which it was given.
-pub fn latest_price(core: Core, security: u16) -> PriceAnswer
+pub fn latest_price(core: Core, security: u16) -> Result<Option<Latest>, Refusal>
     requires { (a : Numbers) × Held core a }
     ensures { (a : Numbers) → result ≡ price_answer (book_of core a) security }
 {
     if !refusals::is_within(1, core.opening.register.count as usize, security as usize) {
-        return PriceAnswer::Refused(NOT_REGISTERED);
+        return Err(Refusal::NotRegistered);
     }
-    let latest = latest_of(core.prices, security);
-    PriceAnswer::Found(latest)
+    Ok(latest_of(core.prices, security))
 }
 
-// The balance of an account, of the two columns of the accounts.
-pub fn balance(credits: &[u64; ACCOUNTS], debits: &[u64; ACCOUNTS], account: u8) -> BalanceAnswer
-    ensures { (core : Core) (others : Numbers) → result ≡ balance_answer (book_of core (on_ledger others (ledger_of credits.now debits.now))) account }
+// The balance of an account. A balance of 0 is a credit.
+pub fn balance(ledger: &Ledger, account: u8) -> Result<Amount, Refusal>
+    ensures { (core : Core) (others : Numbers) → result ≡ balance_answer (book_of core (on_ledger others ledger.now)) account }
 {
     if MEMBERS < account {
-        return BalanceAnswer::Refused(NO_MEMBER);
+        return Err(Refusal::NoMember);
     }
     let k = account as usize;
-    let credit = credits[k];
-    let debit = debits[k];
+    let credit = ledger.credits[k];
+    let debit = ledger.debits[k];
     if credit < debit {
-        return BalanceAnswer::Debit(debit - credit);
+        return Ok(Amount::Debit(debit - credit));
     }
-    BalanceAnswer::Credit(credit - debit)
+    Ok(Amount::Credit(credit - debit))
 }

@@ -13,15 +13,15 @@ use Rattle.laws.specs.Asked.{Said, passed, failed, ask, within_high}
 use Rattle.register.specs.Isin.{is_capital, is_digit, value, digits, digit_sum, twice, digit_sums, doubled_before}
 
 module _ (c : ℕ) where
-  pub letter_value : is_capital c ≡ true → value c ≡ c - 55
+  letter_value : is_capital c ≡ true → value c ≡ c - 55
   unfolding value
   letter_value e = simp e
 
-  pub digit_value : is_capital c ≡ false → is_digit c ≡ true → value c ≡ c - 48
+  digit_value : is_capital c ≡ false → is_digit c ≡ true → value c ≡ c - 48
   unfolding value
   digit_value e f = simp (e, f)
 
-  pub other_value : is_capital c ≡ false → is_digit c ≡ false → value c ≡ 0
+  other_value : is_capital c ≡ false → is_digit c ≡ false → value c ≡ 0
   unfolding value
   other_value e f = simp (e, f)
 
@@ -44,7 +44,7 @@ module _ (c : ℕ) where
   unfolding digits digit_sums
   digit_adds d e = simp (e, add-zero)
 
-  pub character_adds : (d : Bool) (ds : List ℕ) → digit_sums d (reverse (digits c) ++ ds) ≡ digit_sums d (reverse (digits c)) + digit_sums (doubled_before c d) ds
+  character_adds : (d : Bool) (ds : List ℕ) → digit_sums d (reverse (digits c) ++ ds) ≡ digit_sums d (reverse (digits c)) + digit_sums (doubled_before c d) ds
   unfolding digits digit_sums doubled_before
   character_adds d ds = go (ask (is_capital c))
     where

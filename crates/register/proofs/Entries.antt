@@ -1,37 +1,21 @@
--- A register's entries, from one on: whether an ISIN stands among them, and what refuses them.
+-- A register's entries, from one on: what refuses them.
 use Prim.Native.Nat.{ℕ, ◌+◌, ◌-◌, ◌≤◌, ◌<◌}
 use native.Mathlib.Nat.{sub-zero}
 use mathlib.Core.Path.{◌≡◌, ap, ◌∙◌}
 use mathlib.Core.List.{List, ◌++◌}
-use mathlib.Core.Bool.{Bool, true, false, ◌||◌}
-use Rattle.laws.specs.Lists.{range, each, some}
+use mathlib.Core.Bool.{true, false}
+use Rattle.laws.specs.Lists.{range, each}
 use Rattle.laws.specs.Refusals.{first, first_past, first_there}
-use Rattle.laws.specs.Places.{same, range_at, range_end}
+use Rattle.laws.specs.Places.{range_at, range_end}
 use Rattle.register.specs.Isin.{isin}
 use Rattle.register.specs.Register.{count, class_at, is_class, isin_at, stands_earlier, entry_reasons, entries_refusal}
 use Rattle.register.specs.Accepted.{entry_numbered}
-
--- the ISIN of entry i stands among the entries from j to i
-unfoldable pub earlier_from : List ℕ → ℕ → ℕ → Bool
-earlier_from bytes i j = some (λ k. same (isin_at bytes k) (isin_at bytes i)) (range j (i - j))
 
 -- what refuses the entries from i to n
 unfoldable pub refusal_from : List ℕ → ℕ → ℕ → ℕ
 refusal_from bytes n i = first (each (entry_reasons bytes) (range i (n - i)))
 
 module _ (bytes : List ℕ) where
-  pub earlier_start : (i : ℕ) → earlier_from bytes i 0 ≡ stands_earlier bytes i
-  unfolding earlier_from stands_earlier
-  earlier_start i = rw sub-zero
-
-  pub earlier_at : (i j : ℕ) → j < i → earlier_from bytes i j ≡ same (isin_at bytes j) (isin_at bytes i) || earlier_from bytes i (j + 1)
-  unfolding earlier_from
-  earlier_at i j h = ap (some (λ k. same (isin_at bytes k) (isin_at bytes i))) (range_at i j h)
-
-  pub earlier_end : (i j : ℕ) → i ≤ j → earlier_from bytes i j ≡ false
-  unfolding earlier_from
-  earlier_end i j h = ap (some (λ k. same (isin_at bytes k) (isin_at bytes i))) (range_end i j h)
-
   pub refusal_start : (n : ℕ) → n ≡ count bytes → refusal_from bytes n 0 ≡ entries_refusal bytes
   unfolding refusal_from entries_refusal
   refusal_start n e = rw (sub-zero, e)

@@ -1,12 +1,14 @@
 -- What holds of a register that is accepted.
-use Rattle.std.specs.Prelude.{ℕ, ◌+◌, ◌-◌, ◌*◌, ◌≤◌, ◌<◌, ◌≡◌, refl, List, Bool, true, false, length, get_or, drop, eqb}
+use Rattle.std.specs.Prelude.{ℕ, ◌+◌, ◌-◌, ◌*◌, ◌≤◌, ◌<◌, ◌≡◌, refl, List, Bool, true, false, not, length, get_or, drop, eqb}
 use Rattle.std.proofs.Math.Nat.{zero-add}
 use Rattle.std.proofs.Common.{arith, ap, sym, ◌∙◌, eqb-true}
 use Rattle.std.proofs.lemmas.Bool.{false≢true, not-false}
 use Rattle.std.proofs.Math.Seq.{get_or-take, get_or-drop}
 use Rattle.laws.specs.Limits.{SECURITIES}
 use Rattle.laws.specs.Parts.{length_padded, get_or_padded}
-use Rattle.laws.specs.Refusals.{first, numbered, none_applies, each_passes, accepted, accepted_not}
+use Rattle.laws.specs.Alls.{all_each, all_any}
+use Rattle.laws.specs.Lists.{each, range}
+use Rattle.laws.specs.Refusals.{first, numbered, none_applies, each_passes, accepted, accepted_not, choose_most, first_most}
 use Rattle.laws.specs.Asked.{and_left, and_right, within, within_low, within_high}
 use Rattle.laws.specs.Places.{same, same_refl, some_range}
 use Rattle.register.specs.Isin.{isin}
@@ -123,3 +125,12 @@ read_refused bytes refused = accepted_not (refusal bytes) (register_of bytes) em
 pub read_registered : (bytes : List ℕ) → (register_read bytes).number ≡ 0 → Registered (register_read bytes).register
 unfolding register_read
 read_registered bytes taken = rw (read_accepted bytes taken) (registered bytes taken)
+
+-- a register is refused with at most 4
+pub read_most : (bytes : List ℕ) → (register_read bytes).number ≤ 4
+unfolding register_read refusal entries_refusal entry_reasons
+read_most bytes =
+    let entries = range 0 (count bytes) in
+    choose_most (not (right_size bytes)) 4 1 _ (omega arith)
+    (first_most 4 (each (entry_reasons bytes) entries)
+    (all_each (λ r. r.number ≤ 4) (entry_reasons bytes) (λ i. Unit {0}) entries (λ i u. (omega arith, (omega arith, (omega arith, tt)))) (all_any (λ i. Unit {0}) entries (λ i. tt))))

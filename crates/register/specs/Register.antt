@@ -1,6 +1,6 @@
 -- A register's bytes (document 01, 'Register and day'): "A register is a count (u16), then that many class bytes, then that many
 -- 12-byte ISINs. Words are little-endian. Count is 1 to 32; securities are numbered from 1."
-use Rattle.std.specs.Prelude.{ℕ, ◌+◌, ◌-◌, ◌*◌, ◌≤◌, ◌≡◌, List, [], ◌∷◌, Bool, not, ◌&&◌, length, get_or, take, drop, replicate, eqb}
+use Rattle.std.specs.Prelude.{ℕ, ◌+◌, ◌*◌, ◌≤◌, ◌≡◌, List, [], ◌∷◌, Bool, not, ◌&&◌, length, get_or, take, drop, replicate, eqb}
 use Rattle.laws.specs.Limits.{SECURITIES}
 use Rattle.laws.specs.Lists.{range, each, some}
 use Rattle.laws.specs.Asked.{within}
@@ -10,7 +10,6 @@ use Rattle.laws.specs.Words.{word16_at}
 use Rattle.laws.specs.Places.{same}
 use Rattle.register.specs.Isin.{isin}
 use Rattle.register.specs.declared.Register.{Register}
-use Rattle.register.specs.declared.RegisterRead.{RegisterRead}
 
 unfoldable pub count : List ℕ → ℕ
 count bytes = word16_at bytes 0
@@ -64,6 +63,11 @@ register_of bytes =
 
 unfoldable pub empty_register : Register
 empty_register = record { count = 0; classes = zeros SECURITIES; isins = zeros 384 }
+
+-- a refusal number, or 0, with the register that is read: where the bytes are refused, the empty one
+pub record RegisterRead : Type 0 where
+  pub number : ℕ
+  pub register : Register
 
 -- what reading answers: the refusal number, and the register where that is 0
 unfoldable pub register_read : List ℕ → RegisterRead

@@ -4,13 +4,14 @@
 ghost use Rattle.std.specs.Prelude.{◌≡◌, reverse, ◌++◌, ◌≤◌, ◌<◌, length, drop};
 ghost use Rattle.laws.specs.Limits.{SECURITIES};
 ghost use Rattle.laws.specs.Lists.{every};
-ghost use Rattle.laws.specs.Asked;
-ghost use Rattle.laws.specs.Refusals.{first};
+ghost use Rattle.laws.specs.Parts;
 ghost use Rattle.laws.specs.Places;
+ghost use Rattle.laws.specs.Refusals.{first};
+ghost use Rattle.laws.specs.Answers.{answer, number_in};
 ghost use Rattle.register.specs.Isin;
 ghost use Rattle.register.specs.Register as spec;
 
-use laws::SECURITIES;
+use laws::{Refusal, SECURITIES};
 
 // Securities are numbered from 1. The first `count` classes and the first 12 times `count` bytes of `isins` are the
 // register's; the others are 0.
@@ -21,57 +22,33 @@ pub struct Register {
     pub isins: [u8; 384],
 }
 
-// A refusal number, or 0 with the register. (An enum can't hold an array.)
-#[derive(Clone, Copy)]
-pub struct RegisterRead {
-    pub number: u8,
-    pub register: Register,
-}
-
-// The numbers of document 01, 'Why a call is turned down'.
-const WRONG_SIZE: u8 = 1;
-
-const WRONG_CLASS: u8 = 2;
-
-const WRONG_ISIN: u8 = 3;
-
-const REPEATED_ISIN: u8 = 4;
-
-fn within(low: u8, high: u8, n: u8) -> bool
-    ensures { result ≡ Asked.within low high n }
-{
-    if low <= n { n <= high } else { false }
-}
-
 fn is_capital(c: u8) -> bool
     ensures { result ≡ Isin.is_capital c }
 {
-    within(b'A', b'Z', c)
+    c.is_ascii_uppercase()
 }
 
 fn is_digit(c: u8) -> bool
     ensures { result ≡ Isin.is_digit c }
 {
-    within(b'0', b'9', c)
+    c.is_ascii_digit()
 }
 
 fn is_character(c: u8) -> bool
     ensures { result ≡ Isin.is_character c }
 {
-    if is_digit(c) { true } else { is_capital(c) }
+    is_digit(c) || is_capital(c)
 }
 
 // A letter is 10 to 35, a digit its own value.
 fn value(c: u8) -> u8
     ensures { result ≡ Isin.value c }
 {
-    if is_capital(c) {
-        return c - 55;
+    match c {
+        b'A'..=b'Z' => c - b'A' + 10,
+        b'0'..=b'9' => c - b'0',
+        _ => 0,
     }
-    if is_digit(c) {
-        return c - 48;
-    }
-    0
 }
 
 // The digit sum of a digit or of its double.
@@ -110,9 +87,7 @@ fn check_sum(text: &[u8]) -> u32
 {
     let mut sum: u32 = 0;
     let mut doubled = false;
-    let mut i = text.len();
-    while 0 < i {
-        i -= 1;
+    for i in (0..text.len()).rev() {
         let c = text[i];
         sum += character_sum(c, doubled);
         doubled = doubled_before(c, doubled);
@@ -120,55 +95,33 @@ fn check_sum(text: &[u8]) -> u32
     sum
 }
 
+fn are_capitals(text: &[u8]) -> bool
+    ensures { result ≡ every Isin.is_capital text.now }
+{
+    text.iter().all(|&c| is_capital(c))
+}
+
 fn are_characters(text: &[u8]) -> bool
     ensures { result ≡ every Isin.is_character text.now }
 {
-    let mut i = 0;
-    while i < text.len() {
-        let c = text[i];
-        if !is_character(c) {
-            return false;
-        }
-        i += 1;
-    }
-    true
+    text.iter().all(|&c| is_character(c))
 }
 
 pub fn is_isin(text: &[u8]) -> bool
     ensures { result ≡ Isin.isin text.now }
 {
-    if text.len() != 12 {
-        return false;
-    }
-    if !is_capital(text[0]) {
-        return false;
-    }
-    if !is_capital(text[1]) {
-        return false;
-    }
-    if !are_characters(&text[2..11]) {
-        return false;
-    }
-    if !is_digit(text[11]) {
-        return false;
-    }
-    check_sum(text) % 10 == 0
+    text.len() == 12
+        && are_capitals(&text[..2])
+        && are_characters(&text[2..11])
+        && is_digit(text[11])
+        && check_sum(text) % 10 == 0
 }
 
+// Of two slices in a closure, `==` alone leaves the goal of `stands_earlier` open: the closure calls what ensures `Places.same`.
 fn same(a: &[u8], b: &[u8]) -> bool
     ensures { result ≡ Places.same a.now b.now }
 {
-    if a.len() != b.len() {
-        return false;
-    }
-    let mut i = 0;
-    while i < a.len() {
-        if a[i] != b[i] {
-            return false;
-        }
-        i += 1;
-    }
-    true
+    a == b
 }
 
 // The bytes' count, of at least two bytes.
@@ -186,13 +139,7 @@ fn has_right_size(bytes: &[u8]) -> bool
         return false;
     }
     let n = count(bytes) as usize;
-    if n < 1 {
-        return false;
-    }
-    if SECURITIES < n {
-        return false;
-    }
-    bytes.len() == 2 + 13 * n
+    (1..=SECURITIES).contains(&n) && bytes.len() == 2 + 13 * n
 }
 
 // The ISIN of entry `i`, counted from 0.
@@ -209,81 +156,60 @@ fn stands_earlier(bytes: &[u8], n: usize, i: usize) -> bool
     requires { (spec.Sized bytes.now n) × (i < n) }
     ensures { result ≡ spec.stands_earlier bytes.now i }
 {
-    let mut j = 0;
-    while j < i {
-        if same(isin_at(bytes, n, j), isin_at(bytes, n, i)) {
-            return true;
-        }
-        j += 1;
-    }
-    false
+    (0..i).any(|j| same(isin_at(bytes, n, j), isin_at(bytes, n, i)))
 }
 
-fn entry_refusal(bytes: &[u8], n: usize, i: usize) -> u8
-    requires { (spec.Sized bytes.now n) × (i < n) }
-    ensures { result ≡ first (spec.entry_reasons bytes.now i) }
+fn is_class(class: u8) -> bool
+    ensures { result ≡ spec.is_class class }
 {
-    let class = within(1, 3, bytes[2 + i]);
+    (1..=3).contains(&class)
+}
+
+fn entry_refusal(bytes: &[u8], n: usize, i: usize) -> Result<(), Refusal>
+    requires { (spec.Sized bytes.now n) × (i < n) }
+    ensures { number_in result ≡ first (spec.entry_reasons bytes.now i) }
+{
+    let class = is_class(bytes[2 + i]);
     let checked = is_isin(isin_at(bytes, n, i));
     if !class {
-        return WRONG_CLASS;
+        return Err(Refusal::WrongClass);
     }
     if !checked {
-        return WRONG_ISIN;
+        return Err(Refusal::WrongIsin);
     }
     if stands_earlier(bytes, n, i) {
-        return REPEATED_ISIN;
+        return Err(Refusal::RepeatedIsin);
     }
-    0
+    Ok(())
 }
 
-fn entries_refusal(bytes: &[u8], n: usize) -> u8
+fn entries_refusal(bytes: &[u8], n: usize) -> Result<(), Refusal>
     requires { spec.Sized bytes.now n }
-    ensures { result ≡ spec.entries_refusal bytes.now }
+    ensures { number_in result ≡ spec.entries_refusal bytes.now }
 {
-    let mut i = 0;
-    while i < n {
-        let number = entry_refusal(bytes, n, i);
-        if number != 0 {
-            return number;
-        }
-        i += 1;
+    for i in 0..n {
+        entry_refusal(bytes, n, i)?;
     }
-    0
+    Ok(())
 }
 
-fn register_refusal(bytes: &[u8]) -> u8
-    ensures { result ≡ spec.refusal bytes.now }
+fn register_refusal(bytes: &[u8]) -> Result<(), Refusal>
+    ensures { number_in result ≡ spec.refusal bytes.now }
 {
     if !has_right_size(bytes) {
-        return WRONG_SIZE;
+        return Err(Refusal::WrongSize);
     }
-    let n = count(bytes) as usize;
-    entries_refusal(bytes, n)
+    entries_refusal(bytes, count(bytes) as usize)
 }
 
-fn zeros_32() -> [u8; SECURITIES]
-    ensures { result ≡ spec.zeros SECURITIES }
+// The bytes, and a zero at each place after them.
+fn padded<const N: usize>(bytes: &[u8]) -> [u8; N]
+    requires { length bytes.now ≤ N }
+    ensures { result ≡ Parts.padded 0 N bytes.now }
 {
-    [0u8; SECURITIES]
-}
-
-fn zeros_384() -> [u8; 384]
-    ensures { result ≡ spec.zeros 384 }
-{
-    [0u8; 384]
-}
-
-// Copies `from` over the first places of `to`.
-fn copy(to: &mut [u8], from: &[u8])
-    requires { length from.now ≤ length to.old }
-    ensures { to.new ≡ from.now ++ drop (length from.now) to.old }
-{
-    let mut i = 0;
-    while i < from.len() {
-        to[i] = from[i];
-        i += 1;
-    }
+    let mut all = [0; N];
+    all[..bytes.len()].copy_from_slice(bytes);
+    all
 }
 
 fn register_of(bytes: &[u8]) -> Register
@@ -293,35 +219,16 @@ fn register_of(bytes: &[u8]) -> Register
     let n = count(bytes);
     let start = 2 + n as usize;
     let end = start + 12 * (n as usize);
-    let mut classes = zeros_32();
-    copy(&mut classes, &bytes[2..start]);
-    let mut isins = zeros_384();
-    copy(&mut isins, &bytes[start..end]);
     Register {
         count: n,
-        classes,
-        isins,
+        classes: padded(&bytes[2..start]),
+        isins: padded(&bytes[start..end]),
     }
 }
 
-fn empty_register() -> Register
-    ensures { result ≡ spec.empty_register }
+pub fn read_register(bytes: &[u8]) -> Result<Register, Refusal>
+    ensures { result ≡ answer (spec.register_read bytes.now).number (spec.register_read bytes.now).register }
 {
-    Register {
-        count: 0,
-        classes: zeros_32(),
-        isins: zeros_384(),
-    }
-}
-
-pub fn read_register(bytes: &[u8]) -> RegisterRead
-    ensures { result ≡ spec.register_read bytes.now }
-{
-    let number = register_refusal(bytes);
-    if number == 0 {
-        let register = register_of(bytes);
-        return RegisterRead { number, register };
-    }
-    let register = empty_register();
-    RegisterRead { number, register }
+    register_refusal(bytes)?;
+    Ok(register_of(bytes))
 }

@@ -6,13 +6,14 @@ use mathlib.Core.List.{List, [], ◌∷◌, ◌++◌, map-append}
 use lib.ListN.{length, get_or, take}
 use lib.Seq.{take-suc}
 use Rattle.events.specs.declared.Event.{Event}
-use Rattle.plain.specs.declared.Outcome.{Outcome}
+use Rattle.laws.specs.Answers.{Outcome}
 use Rattle.plain.specs.Calls.{Call, call}
 use Rattle.plain.specs.Book as plain
 use Rattle.plain.specs.Histories.{calls_of, next, pieces, run}
 use Rattle.pieces.specs.Sheet.{sheet_with}
 use Rattle.machine.specs.declared.Core.{Core}
-use Rattle.machine.specs.View.{Numbers, Held}
+use Rattle.machine.specs.declared.Numbers.{Numbers}
+use Rattle.machine.specs.View.{Held}
 use Rattle.calls.specs.Stepping.{Stepped}
 use Rattle.history.specs.Runs.{RunsTo, on_numbers}
 use Rattle.history.proofs.Playing.{runs_none, runs_one, runs_then, runs_book}

@@ -1,7 +1,9 @@
 -- Document 01, 'Event files and the player': a file of events played on a new book.
-use Rattle.std.specs.Prelude.{ℕ, zero, suc, ◌≡◌, refl, List, [], ◌∷◌}
+use Rattle.std.specs.Prelude.{ℕ, zero, suc, ◌≡◌, refl, List, [], ◌∷◌, Result, Ok, IfOk}
 use Rattle.std.proofs.Common.{arith, ◌∙◌, ne_eqb}
-use Rattle.laws.specs.Refusals.{◌⇒◌, choose, first, accepted}
+use Rattle.laws.specs.Answers.{number_in}
+use Rattle.laws.specs.Refusals.{◌⇒◌, choose, first}
+use Rattle.laws.specs.declared.Refusal.{Refusal}
 use Rattle.laws.specs.WordLaws.{nonzero}
 use Rattle.register.specs.Register.{register_read}
 use Rattle.events.specs.declared.Event.{Event}
@@ -11,13 +13,12 @@ use Rattle.plain.specs.Calls.{Call}
 use Rattle.plain.specs.Histories.{calls_of, next, pieces, run}
 use Rattle.pieces.specs.Sheet.{sheet_with}
 use Rattle.machine.specs.declared.Core.{Core}
-use Rattle.calls.specs.declared.Opened.{Opened}
 use Rattle.calls.specs.Opening.{OpenedOn}
-use Rattle.machine.specs.View.{Numbers, book_of, Held, Blank}
+use Rattle.machine.specs.declared.Numbers.{Numbers}
+use Rattle.machine.specs.View.{book_of, Held}
+use Rattle.book.specs.declared.Book as whole
 use Rattle.book.specs.View.{view, Valid}
 use Rattle.history.specs.Runs.{Stand, stand_of, RunsTo, Begins}
-use Rattle.replay.specs.declared.Checked.{Checked}
-use Rattle.replay.specs.declared.Replayed.{Replayed}
 
 -- the refusals 1 to 4 of the register, then 5 to 7 of the file, all before any event is played
 unfoldable pub replay_refusal : List ℕ → List ℕ → ℕ
@@ -27,21 +28,10 @@ replay_refusal register file =
     ∷ (nonzero (refusal file) ⇒ refusal file)
     ∷ [])
 
--- a core that no call was made on yet: calls may be made on it with any blank numbers, with which it stands for one plain book
-abbrev pub NewlyHeld : Core → Type 0
-NewlyHeld b = (a : Numbers) → Blank a → Held b a
-
-abbrev pub OpensAs : Core → Book → Type 0
-OpensAs b new = (a : Numbers) → Blank a → book_of b a ≡ new
-
--- what is answered before any event is played: the refusal, or 0; the new book of the register that was read, with which calls are made where nothing
--- is refused
-pub record ReadyFor (register file : List ℕ) (r : Checked) : Type 0 where
-  pub number : r.number ≡ replay_refusal register file
-  pub book : OpensAs r.core (new (opening_read register))
-  pub held : r.number ≡ 0 → NewlyHeld r.core
-  -- the core is the one that opening answered to the register
-  pub opened : ((o : Opened) × (OpenedOn register o) × (o.core ≡ r.core))
+-- what is answered before any event is played: the refusal, or the core that opening answered to the register
+pub record ReadyFor (register file : List ℕ) (r : Result Core Refusal) : Type 0 where
+  pub number : number_in r ≡ replay_refusal register file
+  pub opened : IfOk r (λ core. OpenedOn register (Ok core))
 
 -- what playing some events on a core with its numbers leaves: the calls of the events were made, one after the other
 pub record PlayedUpTo (b : Core) (a : Numbers) (events : List Event) (after : Core) (z : Numbers) : Type 0 where
@@ -61,13 +51,16 @@ pub record PlayedFrom (register : List ℕ) (events : List Event) (z : Stand) : 
   pub begins : Begins register start
   pub runs : RunsTo start (calls_of events) z
 
--- what replaying answers: the refusal, or 0; the new book after all events of the file, or after none where something is refused;
--- and a book that further calls take, where nothing is
-pub record ReplayedFrom (register file : List ℕ) (r : Replayed) : Type 0 where
-  pub number : r.number ≡ replay_refusal register file
-  pub book : view r.book ≡ run (new (opening_read register)) (accepted r.number (calls_of (events_of file)) [])
-  pub valid : r.number ≡ 0 → Valid r.book
-  pub played : r.number ≡ 0 → PlayedFrom register (events_of file) (stand_of r.book)
+-- a book after all events of the file, which further calls take
+pub record Replayed (register file : List ℕ) (b : whole.Book) : Type 0 where
+  pub book : view b ≡ run (new (opening_read register)) (calls_of (events_of file))
+  pub valid : Valid b
+  pub played : PlayedFrom register (events_of file) (stand_of b)
+
+-- what replaying answers: the refusal, or such a book
+pub record ReplayedFrom (register file : List ℕ) (r : Result whole.Book Refusal) : Type 0 where
+  pub number : number_in r ≡ replay_refusal register file
+  pub replayed : IfOk r (Replayed register file)
 
 -- a number that refuses where it is not 0 decides
 pub deciding : (n : ℕ) → n ≡ first ((nonzero n ⇒ n) ∷ [])

@@ -1,8 +1,8 @@
 -- Texts of the elements of a list, written one after the other.
-use Prim.Native.Nat.{ℕ, ◌+◌, ◌*◌, ◌≤◌, ◌<◌, min}
+use Prim.Native.Nat.{ℕ, zero, suc, ◌+◌, ◌≤◌, ◌<◌, min}
 use native.Mathlib.Numerals.{add-one}
 use native.Mathlib.Omega.{arith}
-use mathlib.Core.Path.{◌≡◌, ap, sym, ◌∙◌, subst}
+use mathlib.Core.Path.{◌≡◌, refl, ap, ap₂, sym, ◌∙◌, subst}
 use mathlib.Core.List.{List, [], ◌∷◌, ◌++◌, append-nil}
 use lib.ListN.{length, get_or, take, drop, length-append, take-append-drop}
 use lib.Seq.{take-suc, take-take, take_all, get_or-take, length-take-le}
@@ -10,13 +10,13 @@ use lib.Dec.{ltb}
 use borrow.Author.Tests.{ltb-true, ltb-false}
 use Rattle.laws.specs.Asked.{Said, passed, failed, ask}
 use Rattle.laws.specs.Lists.{each, range}
-use Rattle.laws.specs.Listed.{each_append, length_range, get_or_range}
+use Rattle.laws.specs.Listed.{each_append, range_append}
 use Rattle.plain.specs.declared.Position.{Position}
 use Rattle.plain.proofs.Numbered.{place_nth}
 use Rattle.plain.specs.Book.{nth, no_position}
 use Rattle.tables.specs.Tables.{Positions, PositionsFit, positions}
 use Rattle.report.specs.Lines.{LINE}
-use Rattle.report.specs.Pages.{Put, Wrote, lent, back, put_none, put_lent, put_length, put_text, put_wrote, wrote_lent}
+use Rattle.report.specs.Pages.{Put, Wrote, lent, back, put_lent, put_length, wrote_lent}
 
 module _ {A : Type 0} (f : A → List ℕ) (xs : List A) (d : A) where
   -- the texts with one more
@@ -48,41 +48,30 @@ module _ {A : Type 0} (f : A → List ℕ) (xs : List A) (d : A) where
 pub kept_length : (text entry page : List ℕ) (at : ℕ) → Put text entry page at → length text ≤ length entry → length page ≡ length entry
 kept_length text entry page at w h = put_length text entry page at w (omega (arith, w.bytes))
 
--- Lines that are written one after the other, into a page with room for n of them: those of the first i elements of a list, in at most so many
--- bytes each
-module _ {A : Type 0} (f : A → List ℕ) (xs : List A) (n : ℕ) (entry : List ℕ) where
-  pub record Lined (page : List ℕ) (at i : ℕ) : Type 0 where
-    pub within : i ≤ n
-    pub few : at ≤ LINE * i
-    pub text : Put (each f (take i xs)) entry page at
+-- ---- texts by index
 
-  pub none_lined : Lined entry 0 0
-  none_lined = record { within = omega arith; few = omega arith; text = put_none entry }
+-- those of the indices below i, and that of i
+range_next : (i : ℕ) → range 0 (i + 1) ≡ range 0 i ++ (i ∷ [])
+range_next i = range_append 0 i 1 ∙ ap (λ (n : ℕ). range 0 i ++ (n ∷ [])) (omega arith)
 
-  module _ (enough : LINE * n ≤ length entry) (page : List ℕ) (at i : ℕ) (w : Lined page at i) where
-    -- the page keeps its length
-    pub lined_length : length page ≡ length entry
-    lined_length = kept_length (each f (take i xs)) entry page at w.text (omega (arith, w.within, w.few, w.text.bytes))
+module _ (text : ℕ → List ℕ) where
+  pub each_index : (i : ℕ) → each text (range 0 (i + 1)) ≡ each text (range 0 i) ++ text i
+  each_index i =
+      ap (each text) (range_next i) ∙ each_append text (range 0 i) (i ∷ []) ∙ ap (λ (l : List ℕ). each text (range 0 i) ++ l) (append-nil (text i))
 
-    -- there is room for the next line where the others end
-    pub lined_room : i < n → at + LINE ≤ length page
-    lined_room h = omega (arith, lined_length, w.few)
+  -- one line more
+  pub put_line_more : (entry page part : List ℕ) (at m i : ℕ) → at + LINE ≤ length page → Put (each text (range 0 i)) entry page at → Wrote LINE (text i) (lent at page) part m
+      → Put (each text (range 0 (i + 1))) entry (back at page part) (at + m)
+  put_line_more entry page part at m i h w v =
+      rw (each_index i) (wrote_lent (each text (range 0 i)) entry page at w LINE (text i) part m h v)
 
-    -- one line more
-    pub lined_next : (d : A) (part : List ℕ) (m : ℕ) → i < n → i < length xs → Wrote LINE (f (get_or xs i d)) (lent at page) part m → Lined (back at page part) (at + m) (i + 1)
-    lined_next d part m h l v =
-        record {
-          within = omega arith;
-          few = omega (arith, w.few, v.most);
-          text =
-              subst (λ (t : List ℕ). Put t entry (back at page part) (at + m)) (sym (each_next f xs d i l))
-              (wrote_lent (each f (take i xs)) entry page at w.text LINE (f (get_or xs i d)) part m (lined_room h) v);
-        }
-
-    -- the lines are the text that was wanted
-    pub all_lined : (text : List ℕ) → each f (take i xs) ≡ text → Wrote (LINE * n) text entry page at
-    all_lined text e =
-        put_wrote (LINE * n) text entry page at enough (omega (arith, ap length e, w.within, w.few, w.text.bytes)) (put_text _ text entry page at e w.text)
+-- the texts of the elements at indices are the texts of the elements
+pub each_at : {A : Type 0} (f : A → List ℕ) (xs : List A) (d : A) (n : ℕ) → n ≤ length xs → each (λ i. f (get_or xs i d)) (range 0 n) ≡ each f (take n xs)
+each_at f xs d zero h = refl
+each_at f xs d (suc n) h =
+    let text : ℕ → List ℕ = λ i. f (get_or xs i d) in
+    ap (λ (k : ℕ). each text (range 0 k)) (sym (add-one n)) ∙ each_index text n ∙ ap (λ (l : List ℕ). l ++ f (get_or xs n d)) (each_at f xs d n (omega arith))
+    ∙ sym (each_next f xs d n (omega arith)) ∙ ap (λ (k : ℕ). each f (take k xs)) (add-one n)
 
 -- no more are taken than there are
 pub take_min : {A : Type 0} (xs : List A) (n m : ℕ) → length xs ≡ m → take (min n m) xs ≡ take n xs
@@ -96,9 +85,11 @@ take_min xs n m e = go (ask (ltb m n))
         let few : n ≤ m = ltb-false m n l in
         ap (λ (k : ℕ). take k xs) (let same : min n m ≡ n = omega arith in same)
 
--- a whole range is taken
-pub take_range : (a n : ℕ) → take n (range a n) ≡ range a n
-take_range a n = take_all n (range a n) (omega (arith, length_range a n))
+-- texts by index, and by a number that is one more
+each_numbered : (f g : ℕ → List ℕ) (a n : ℕ) → ((i : ℕ) → i < a + n → f i ≡ g (suc i)) → each f (range a n) ≡ each g (range (suc a) n)
+each_numbered f g a zero h = refl
+each_numbered f g a (suc n) h =
+    ap₂ (λ (l k : List ℕ). l ++ k) (h a (omega arith)) (each_numbered f g (suc a) n (λ i l. h i (omega arith)))
 
 -- ---- positions by their numbers, each with a line of its number and itself
 
@@ -108,17 +99,17 @@ module _ (line_of : ℕ → Position → List ℕ) where
   position_text ps n = line_of n (nth no_position ps n)
 
   -- the position at an index, counted from 0, and its line
-  pub position_here : (table : Positions) (i : ℕ) → i < table.count → line_of (i + 1) (get_or table.items i no_position) ≡ position_text (positions table) (get_or (range 1 table.count) i 0)
+  position_here : (table : Positions) (i : ℕ) → i < table.count → line_of (i + 1) (get_or table.items i no_position) ≡ position_text (positions table) (suc i)
   unfolding positions
   position_here table i h =
-      let n : get_or (range 1 table.count) i 0 ≡ i + 1 = get_or_range 1 table.count i 0 h ∙ omega arith in
       let p : get_or table.items i no_position ≡ nth no_position (take table.count table.items) (i + 1) =
       sym (place_nth no_position (take table.count table.items) i (i + 1) (add-one i) ∙ get_or-take table.count table.items i no_position h) in
-      ap (line_of (i + 1)) p ∙ ap (position_text (take table.count table.items)) (sym n)
+      ap (line_of (i + 1)) p ∙ ap (position_text (take table.count table.items)) (add-one i)
 
   -- the lines of all of them
   pub positions_all : (table : Positions) → PositionsFit table
-      → each (position_text (positions table)) (take table.count (range 1 table.count)) ≡ each (position_text (positions table)) (range 1 (length (positions table)))
+      → each (λ i. line_of (i + 1) (get_or table.items i no_position)) (range 0 table.count) ≡ each (position_text (positions table)) (range 1 (length (positions table)))
   unfolding positions
   positions_all table fit =
-      ap (each (position_text (positions table))) (take_range 1 table.count ∙ ap (range 1) (sym (length-take-le table.count table.items (omega (arith, fit.places, fit.held)))))
+      each_numbered (λ i. line_of (i + 1) (get_or table.items i no_position)) (position_text (positions table)) 0 table.count (λ i h. position_here table i (omega arith))
+      ∙ ap (λ (n : ℕ). each (position_text (positions table)) (range 1 n)) (sym (length-take-le table.count table.items (omega (arith, fit.places, fit.held))))

@@ -2,7 +2,8 @@
 // Document 01, 'Event files and the player'.
 #![tactic(auto)]
 
-ghost use Rattle.std.specs.Prelude.{◌≡◌, ◌∷◌, [], ◌++◌, ◌+◌, ◌*◌, ◌≤◌, min, length, take};
+ghost use Rattle.std.specs.Prelude.{ℕ, List, ◌≡◌, ◌∷◌, [], ◌++◌, ◌+◌, ◌*◌, ◌≤◌, ◌<◌, min, length, take};
+ghost use Rattle.laws.specs.Lists.{each, range};
 ghost use Rattle.std.proofs.Math.IntN.{sub_ℕ};
 ghost use Rattle.laws.specs.Limits.{ACCOUNTS, PLACES, POSITIONS};
 ghost use Rattle.pieces.specs.Sheet.{pieces_of};
@@ -13,46 +14,31 @@ ghost use Rattle.report.specs.Lines.{LINE, account_line, account_lines, amount, 
 ghost use Rattle.report.specs.Pages.{Put, Wrote};
 
 use laws::{ACCOUNTS, PLACES, POSITION_CELLS, SHEET_CELLS};
-use plain::{Piece, Position};
+use plain::{Ledger, Piece, Position};
 
 // A page that a line is written into has at least as many bytes.
 const LINE: usize = 80;
 
-const BLANK: u8 = 32;
+const BLANK: u8 = b' ';
 
-const LINE_FEED: u8 = 10;
+const LINE_FEED: u8 = b'\n';
 
-const MINUS: u8 = 45;
+const MINUS: u8 = b'-';
 
-// How many digits a number has, counted by four.
+// How many digits a number has.
 fn digit_count(n: u64) -> usize
     ensures { result ≡ length (digits n) }
 {
-    let mut left = n;
-    let mut count: usize = 1;
-    while 10000 <= left {
-        left = left / 10000;
-        count += 4;
-    }
-    if left < 10 {
-        return count;
-    }
-    if left < 100 {
-        return count + 1;
-    }
-    if left < 1000 {
-        return count + 2;
-    }
-    count + 3
+    n.max(1).ilog10() as usize + 1
 }
 
-// The digits of a number, two at a time, from the last to the first.
+// The digits of a number, two at a time, from the last to the first: the place falls by two, so the loop is no range.
 fn put_digits(page: &mut [u8], n: u64) -> usize
     requires { length (digits n) ≤ length page.old }
     ensures { Put (digits n) page.old page.new result }
 {
     if n < 10 {
-        page[0] = 48 + n as u8;
+        page[0] = b'0' + n as u8;
         return 1;
     }
     let count = digit_count(n);
@@ -61,13 +47,12 @@ fn put_digits(page: &mut [u8], n: u64) -> usize
     while 1 < at {
         at -= 2;
         let two = (left % 100) as u8;
-        page[at + 1] = 48 + two % 10;
-        page[at] = 48 + two / 10;
+        page[at + 1] = b'0' + two % 10;
+        page[at] = b'0' + two / 10;
         left = left / 100;
     }
     if at == 1 {
-        page[0] = 48 + left as u8;
-        return count;
+        page[0] = b'0' + left as u8;
     }
     count
 }
@@ -102,13 +87,9 @@ fn put_numbers(page: &mut [u8], list: &[u64]) -> usize
     requires { length (numbers list.now) ≤ length page.old }
     ensures { Put (numbers list.now) page.old page.new result }
 {
-    let count = list.len();
-    let mut at: usize = 0;
-    let mut i: usize = 0;
-    while i < count {
-        let n = list[i];
-        at += put_number(&mut page[at..], n);
-        i += 1;
+    let mut at = 0;
+    for n in list {
+        at += put_number(&mut page[at..], *n);
     }
     at
 }
@@ -133,10 +114,7 @@ fn put_amount(page: &mut [u8], negative: bool, cents: u64) -> usize
     requires { length (field (signed (amount negative cents))) ≤ length page.old }
     ensures { Put (field (signed (amount negative cents))) page.old page.new result }
 {
-    if !negative {
-        return put_number(page, cents);
-    }
-    if cents == 0 {
+    if !negative || cents == 0 {
         return put_number(page, cents);
     }
     page[0] = BLANK;
@@ -217,29 +195,32 @@ pub fn account_line(page: &mut [u8], account: u8, negative: bool, cents: u64) ->
     end + 1
 }
 
-// No more than the 1,024 pieces that there are.
-fn at_most(count: usize) -> usize
-    ensures { result ≡ min count PLACES }
+// The lines of the elements at the indices below `count`, as `line` writes the one at an index, one after the other. A page of fewer than 80 bytes
+// for each is left as it is.
+fn put_lines<F: Fn(&mut [u8], usize) -> usize>(page: &mut [u8], count: usize, line: F) -> usize
+    ghost text: { ℕ → List ℕ }
+    requires fits { LINE * count ≤ usize.MAX }
+    requires callable { (i : ℕ) (p : _) → i < count → F.pre line p i }
+    requires written { (i : ℕ) (p : _) (r : ℕ) (q : _) → i < count → F.post line p i r q → Wrote LINE (text i) p.now q.now r }
+    ensures { Wrote (LINE * count) (each text (range 0 count)) page.old page.new result }
 {
-    if PLACES < count { PLACES } else { count }
+    if page.len() < LINE * count {
+        return 0;
+    }
+    let mut at = 0;
+    for i in 0..count {
+        at += line(&mut page[at..], i);
+    }
+    at
 }
 
 // The lines of the first `count` pieces, of all 1,024 if `count` is more. The page has at least 80 bytes for each.
 pub fn piece_lines(page: &mut [u8], sheet: &[u64; SHEET_CELLS], count: usize) -> usize
     ensures { Wrote (LINE * min count PLACES) (piece_lines (take count (pieces_of sheet.now))) page.old page.new result }
 {
-    let stop = at_most(count);
-    if page.len() < LINE * stop {
-        return 0;
-    }
-    let mut at: usize = 0;
-    let mut i: usize = 0;
-    while i < stop {
-        let piece = pieces::piece_at(sheet, i);
-        at += piece_line(&mut page[at..], piece);
-        i += 1;
-    }
-    at
+    put_lines(page, count.min(PLACES), |page: &mut [u8], i: usize| {
+        piece_line(page, pieces::piece_at(sheet, i))
+    })
 }
 
 // The line of an event and those of its pieces. The page has at least 80 bytes for each line.
@@ -253,7 +234,7 @@ pub fn event_lines(
 ) -> usize
     ensures { Wrote (LINE * (1 + min count PLACES)) (event_lines number refusal quantity (take count (pieces_of sheet.now))) page.old page.new result }
 {
-    let stop = at_most(count);
+    let stop = count.min(PLACES);
     if page.len() < LINE * (1 + stop) {
         return 0;
     }
@@ -266,17 +247,9 @@ pub fn position_lines(page: &mut [u8], rows: &[u32; POSITION_CELLS], count: usiz
     requires { count ≤ POSITIONS }
     ensures { Wrote (LINE * count) (position_lines (positions (position_table rows.now count))) page.old page.new result }
 {
-    if page.len() < LINE * count {
-        return 0;
-    }
-    let mut at: usize = 0;
-    let mut i: usize = 0;
-    while i < count {
-        let position = rows::row_at(rows, i);
-        at += position_line(&mut page[at..], (i + 1) as u16, position);
-        i += 1;
-    }
-    at
+    put_lines(page, count, |page: &mut [u8], i: usize| {
+        position_line(page, (i + 1) as u16, rows::row_at(rows, i))
+    })
 }
 
 // The line of an account by what it was credited and debited; none if that is the same.
@@ -293,19 +266,10 @@ fn balance_line(page: &mut [u8], account: u8, credit: u64, debit: u64) -> usize
 }
 
 // The lines of the accounts that are not zero, by rising number. The page has at least 80 bytes for each of 64.
-pub fn account_lines(page: &mut [u8], credits: &[u64; ACCOUNTS], debits: &[u64; ACCOUNTS]) -> usize
-    ensures { Wrote (LINE * ACCOUNTS) (account_lines (record { credits = credits.now; debits = debits.now })) page.old page.new result }
+pub fn account_lines(page: &mut [u8], ledger: &Ledger) -> usize
+    ensures { Wrote (LINE * ACCOUNTS) (account_lines ledger.now) page.old page.new result }
 {
-    if page.len() < LINE * ACCOUNTS {
-        return 0;
-    }
-    let mut at: usize = 0;
-    let mut k: usize = 0;
-    while k < ACCOUNTS {
-        let credit = credits[k];
-        let debit = debits[k];
-        at += balance_line(&mut page[at..], k as u8, credit, debit);
-        k += 1;
-    }
-    at
+    put_lines(page, ACCOUNTS, |page: &mut [u8], i: usize| {
+        balance_line(page, i as u8, ledger.credits[i], ledger.debits[i])
+    })
 }

@@ -1,6 +1,6 @@
 -- A quotient rounded half up: nothing under half the divisor, and from there on one more than the divisors that follow.
 use Prim.Native.Nat.{ℕ, ◌+◌, ◌-◌, ◌*◌, ◌/◌, ◌%◌, ◌≤◌, ◌<◌}
-use native.Mathlib.Nat.{div-eq_of_lt-le, div-add-mod', div-zero, mod-lt, le-mul_of_pos_right, mul_left_comm, add-mul}
+use native.Mathlib.Nat.{div-eq_of_lt-le, div-add-mod', div-zero, mod-lt, mul_left_comm, add-mul}
 use native.Mathlib.Omega.{arith}
 use mathlib.Core.Path.{◌≡◌}
 use Rattle.rules.specs.Charges.{rounded_half_up}
@@ -31,7 +31,3 @@ module _ (v b : ℕ) (h : 0 < b) where
       let f = add-mul k 1 (2 * b) in
       let g = add-mul (k + 1) 1 (2 * b) in
       omega (arith, div-eq_of_lt-le {k = (v - half b) / b + 1} (2 * b) {m = 2 * v + b} (omega (arith, split)) (omega (arith, split)))
-
-  -- one more is not above the value
-  pub room_above : half b ≤ v → (v - half b) / b + 1 ≤ v
-  room_above l = omega (arith, split, le-mul_of_pos_right ((v - half b) / b) h)

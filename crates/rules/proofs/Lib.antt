@@ -1,2 +1,1 @@
-pub mod Recurring
 pub mod Halves

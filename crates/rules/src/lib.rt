@@ -1,73 +1,59 @@
 // The rules on numbers alone: day windows, prices, fees and fines. Each function is its definition in specs/, for all inputs.
 #![tactic(auto)]
 
-ghost use Rattle.std.specs.Prelude.{◌≡◌, [], ◌∷◌, ◌*◌, min, max};
+ghost use Rattle.std.specs.Prelude.{◌≡◌, [], ◌∷◌, ◌*◌};
 ghost use Rattle.rules.specs.Windows.{step_on, recurring_step, step_kind};
 ghost use Rattle.rules.specs.Prices.{ceiling, raised, cash_price};
 ghost use Rattle.rules.specs.Charges.{rounded_half_up, fee, cash_fee, award_fine, late_fine, buy_in_charge};
 
-// The step that a day allows on a short besides delivery.
-#[derive(Clone, Copy)]
+// The step that a day allows on a short besides delivery, by the kind of its event: 0 where it is none.
+#[derive(Clone, Copy, PartialEq, Eq)]
 pub enum Step {
-    Nothing,
-    Attempt,
-    Cash,
+    Nothing = 0,
+    Attempt = 4,
+    Cash = 8,
 }
 
-// The kinds of the events that the steps are.
-pub const ATTEMPT: u8 = 4;
-
-pub const CASH: u8 = 8;
-
-// What a charge makes of an account: a debit, or a credit where the charge is negative.
+// Cents by their sign: of a charge, a debit, or a credit where it is negative; of a balance, a credit where it is positive.
 #[derive(Clone, Copy)]
 pub enum Amount {
     Debit(u64),
     Credit(u64),
 }
 
+#[tactic(auto, unfolding(crate::specs::Windows::step_on, crate::specs::Windows::share_step))]
 pub fn step_on(class: u8, r: u16) -> Step
     ensures { result ≡ step_on class r }
 {
-    match class {
-        1 => match r {
-            0..=4 => Step::Nothing,
-            5..=7 => Step::Attempt,
-            _ => Step::Cash,
-        },
-        2 | 3 => recurring_step(r),
+    match (class, r) {
+        (1, 0..=4) => Step::Nothing,
+        (1, 5..=7) => Step::Attempt,
+        (1, _) => Step::Cash,
+        (2 | 3, _) => recurring_step(r),
         _ => Step::Nothing,
     }
 }
 
 // From r 27 on the windows of classes 2 and 3 recur every ten days.
+#[tactic(auto, unfolding(crate::specs::Windows::recurring_step))]
 fn recurring_step(r: u16) -> Step
     ensures { result ≡ recurring_step r }
 {
-    match r {
-        0..=26 => Step::Nothing,
-        _ => {
-            let place = r % 10;
-            match place {
-                0..=6 => Step::Cash,
-                7 => Step::Attempt,
-                _ => Step::Nothing,
-            }
-        }
+    match (r, r % 10) {
+        (0..=26, _) => Step::Nothing,
+        (_, 0..=6) => Step::Cash,
+        (_, 7) => Step::Attempt,
+        _ => Step::Nothing,
     }
 }
 
-// A step by the kind of its event, 0 where it is none.
 pub fn step_kind(step: Step) -> u8
     ensures { result ≡ step_kind step }
 {
-    match step {
-        Step::Nothing => 0,
-        Step::Attempt => ATTEMPT,
-        Step::Cash => CASH,
-    }
+    step as u8
 }
 
+#[tactic(auto, unfolding(crate::specs::Prices::ceiling))]
 pub fn ceiling_of(class: u8, latest: u32) -> u64
     ensures { result ≡ ceiling class latest }
 {
@@ -79,6 +65,8 @@ pub fn ceiling_of(class: u8, latest: u32) -> u64
     }
 }
 
+// Beside `ceiling_of`, from which it differs in class 3 alone, since they are two rules.
+#[tactic(auto, unfolding(crate::specs::Prices::raised))]
 fn raised_price(class: u8, latest: u32) -> u64
     ensures { result ≡ raised class latest }
 {
@@ -90,30 +78,18 @@ fn raised_price(class: u8, latest: u32) -> u64
     }
 }
 
-// Named as `netting` and `auction` name theirs, which are of 32 bits.
-fn greater(a: u64, b: u64) -> u64
-    ensures { result ≡ max a b }
-{
-    if a < b { b } else { a }
-}
-
-fn lesser(a: u64, b: u64) -> u64
-    ensures { result ≡ min a b }
-{
-    if a < b { a } else { b }
-}
-
 // The price of a cash settlement, by the reference price of its short and the highest one among the longs in its pieces: several longs count
 // by that one alone (`by-highest-long`).
+#[tactic(auto, unfolding(crate::specs::Prices::cash_price))]
 pub fn cash_price(class: u8, short: u32, long: u32, latest: u32) -> u64
     ensures { result ≡ cash_price class short (long ∷ []) latest }
 {
-    let references = greater(short as u64, long as u64);
-    greater(references, raised_price(class, latest))
+    u64::from(short.max(long)).max(raised_price(class, latest))
 }
 
 // Half up: nothing under half of the divisor, and from there on one more than the whole divisors that follow. So no sum overflows,
 // whatever the value, and a constant divisor leaves a multiplication and no rest. A divisor of 0 gives 0, as the definition's quotient does.
+#[tactic(auto, using(crate::proofs::Halves::by_zero, crate::proofs::Halves::under_half, crate::proofs::Halves::from_half))]
 pub fn rounded(value: u64, divisor: u32) -> u64
     ensures { result ≡ rounded_half_up value divisor }
 {
@@ -128,28 +104,32 @@ pub fn rounded(value: u64, divisor: u32) -> u64
     (value - half) / by + 1
 }
 
+#[tactic(auto, unfolding(crate::specs::Charges::fee))]
 pub fn fee_within(divisor: u32, least: u64, most: u64, value: u64) -> u64
     ensures { result ≡ fee divisor least most value }
 {
-    lesser(most, greater(least, rounded(value, divisor)))
+    rounded(value, divisor).max(least).min(most)
 }
 
+#[tactic(auto, unfolding(crate::specs::Charges::cash_fee))]
 pub fn cash_fee(value: u64) -> u64
     ensures { result ≡ cash_fee value }
 {
     fee_within(40000, 25000, 100000, value)
 }
 
+#[tactic(auto, unfolding(crate::specs::Charges::award_fine))]
 pub fn award_fine(class: u8, value: u64) -> u64
     ensures { result ≡ award_fine class value }
 {
     match class {
-        1 | 2 => greater(100000, rounded(value, 2500)),
+        1 | 2 => rounded(value, 2500).max(100000),
         3 => 100000,
         _ => 0,
     }
 }
 
+#[tactic(auto, unfolding(crate::specs::Charges::late_fine))]
 pub fn late_fine(value: u64) -> u64
     ensures { result ≡ late_fine value }
 {
@@ -163,6 +143,7 @@ pub fn value_of(quantity: u32, price: u32) -> u64
     (quantity as u64) * (price as u64)
 }
 
+#[tactic(auto, using(crate::specs::Charged::buy_in_amount))]
 pub fn buy_in_charge(quantity: u32, price: u32, reference: u32) -> Amount
     ensures { result ≡ buy_in_charge quantity price reference }
 {

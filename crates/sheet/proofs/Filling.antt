@@ -13,7 +13,6 @@ use Rattle.laws.specs.Refusals.{accepted}
 use Rattle.events.specs.declared.Event.{Event}
 use Rattle.events.specs.declared.Event.TheVariants as event
 use Rattle.plain.specs.declared.Piece.{Piece}
-use Rattle.plain.specs.declared.Outcome.{Outcome}
 use Rattle.plain.specs.Book as plain
 use Rattle.plain.specs.Calls.{call, hands_out}
 use Rattle.plain.specs.Refusals.{reasons, refusal}
@@ -48,7 +47,7 @@ room : (b : plain.Book) (e : Event) (n : ℕ) (small : Bool) → ltb n 1024 ≡ 
 room b e n true h few = rw (none_on_small b e n h) (omega arith)
 room b e n false h few = omega (arith, ltb-false n 1024 h, few)
 
-module _ (b : Book) (e : Event) (n : ℕ) (r : Discharged) (s : Stepped b e n r) where
+module _ (b after : Book) (e : Event) (n : ℕ) (r : Discharged) (s : Stepped b e n after r) where
   counted : r.pieces.count ≡ length (pieces (view b) (call e n))
   unfolding table.pieces
   counted = sym (length-take-le r.pieces.count r.pieces.items (omega (arith, s.pieces_fit.held, s.pieces_fit.places))) ∙ ap length s.returned.pieces
@@ -56,16 +55,15 @@ module _ (b : Book) (e : Event) (n : ℕ) (r : Discharged) (s : Stepped b e n r)
   pub has_room : r.pieces.count ≤ n
   has_room = omega (arith, counted, room (view b) e n (ltb n 1024) refl (omega (arith, counted, s.pieces_fit.held)))
 
-module _ (b : Book) (e : Event) (ys zs : List Piece) (r : Discharged) (s : Stepped b e (length ys) r) (filled : zs ≡ table.pieces r.pieces ++ drop r.pieces.count ys) where
-  pub returned_on : (after : Book) (o : Outcome) (n : ℕ) → (after ≡ r.book) × (o ≡ r.outcome) × (n ≡ r.pieces.count) → ReturnedOn b e ys zs after o n
-  returned_on after o n same =
-      rw (same.0, same.1, same.2)
-      (record {
+module _ (b after : Book) (e : Event) (ys zs : List Piece) (r : Discharged) (s : Stepped b e (length ys) after r) (filled : zs ≡ table.pieces r.pieces ++ drop r.pieces.count ys) where
+  pub returned_on : ReturnedOn b e ys zs after r.outcome r.pieces.count
+  returned_on =
+      record {
         returned = rw read s.returned;
-        count = counted b e (length ys) r s;
+        count = counted b after e (length ys) r s;
         sheet = rw (sym s.returned.pieces) filled;
         kept = λ k. filled ∙ nothing k;
-      })
+      }
     where
       given : List Piece
       given = table.pieces r.pieces
@@ -73,11 +71,11 @@ module _ (b : Book) (e : Event) (ys zs : List Piece) (r : Discharged) (s : Stepp
       read : take r.pieces.count zs ≡ given
       read =
           ap (take r.pieces.count) filled
-          ∙ ap (λ (k : ℕ). take k (given ++ drop r.pieces.count ys)) (counted b e (length ys) r s ∙ ap length (sym s.returned.pieces))
+          ∙ ap (λ (k : ℕ). take k (given ++ drop r.pieces.count ys)) (counted b after e (length ys) r s ∙ ap length (sym s.returned.pieces))
           ∙ take-append_seam given (drop r.pieces.count ys)
 
       nothing : refusal (view b) (call e (length ys)) ≢ 0 → given ++ drop r.pieces.count ys ≡ ys
       nothing k =
           let none : pieces (view b) (call e (length ys)) ≡ [] = (refused (view b) (call e (length ys)) k).pieces' in
           ap (λ (xs : List Piece). xs ++ drop r.pieces.count ys) (s.returned.pieces ∙ none)
-          ∙ ap (λ (m : ℕ). drop m ys) (counted b e (length ys) r s ∙ ap length none)
+          ∙ ap (λ (m : ℕ). drop m ys) (counted b after e (length ys) r s ∙ ap length none)

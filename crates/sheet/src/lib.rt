@@ -1,4 +1,4 @@
-// The calls on a sheet of pieces that the caller lends. Each takes the sheet's length, makes its call by value, and writes the pieces.
+// The calls on a sheet of pieces that the caller lends. Each takes the sheet's length, makes its call, and writes the pieces.
 #![tactic(auto)]
 
 ghost use Rattle.std.specs.Prelude.{◌≡◌, ◌++◌, ◌≤◌, length, drop};
@@ -7,91 +7,65 @@ ghost use Rattle.tables.specs.Tables as tables;
 ghost use Rattle.book.specs.View.{Valid};
 ghost use Rattle.sheet.specs.Lent.{ReturnedOn};
 
-use book::{Book, Discharged};
+use book::Book;
 use events::{Cash, Confirm, Delivery, Event, PairOff};
-use plain::{Outcome, Piece};
+use laws::Refusal;
+use plain::Piece;
 use tables::Pieces;
 
-// What a call on a lent sheet answers: the book after it, its quantity or refusal, and how many pieces it wrote.
-#[derive(Drop)]
+// What a call on a lent sheet answers: its quantity or why it is turned down, and how many pieces it wrote.
+#[derive(Clone, Copy)]
 pub struct Written {
-    pub book: Book,
-    pub outcome: Outcome,
+    pub outcome: Result<u32, Refusal>,
     pub count: usize,
 }
 
 // Copies the pieces into the first places of the sheet. The later places keep their content.
-fn fill(sheet: &mut [Piece], pieces: Pieces)
-    requires { (tables.PiecesFit pieces) × (pieces.count ≤ length sheet.old) }
-    ensures { sheet.new ≡ tables.pieces pieces ++ drop pieces.count sheet.old }
+fn fill(sheet: &mut [Piece], pieces: &Pieces)
+    requires { (tables.PiecesFit pieces.now) × (pieces.now.count ≤ length sheet.old) }
+    ensures { sheet.new ≡ tables.pieces pieces.now ++ drop pieces.now.count sheet.old }
 {
     let n = pieces.count;
-    let mut i: usize = 0;
-    while i < n {
-        sheet[i] = pieces.items[i];
-        i += 1;
-    }
+    sheet[..n].copy_from_slice(&pieces.items[..n]);
 }
 
-fn reported(done: Discharged) -> Written
-    ensures { (result.book ≡ done.book) × (result.outcome ≡ done.outcome) × (result.count ≡ done.pieces.count) }
+// One event, by the call of its kind.
+pub fn step(book: &mut Book, sheet: &mut [Piece], e: Event) -> Written
+    requires { Valid book.old }
+    ensures { ReturnedOn book.old e sheet.old sheet.new book.new result.outcome result.count }
 {
-    let book = done.book;
-    let outcome = done.outcome;
+    let done = book.step(sheet.len(), e);
+    fill(sheet, &done.pieces);
     Written {
-        book,
-        outcome,
+        outcome: done.outcome,
         count: done.pieces.count,
     }
 }
 
-pub fn delivery(book: Book, sheet: &mut [Piece], d: Delivery) -> Written
-    requires { Valid book }
-    ensures { ReturnedOn book (event.Delivery d) sheet.old sheet.new result.book result.outcome result.count }
+pub fn delivery(book: &mut Book, sheet: &mut [Piece], d: Delivery) -> Written
+    requires { Valid book.old }
+    ensures { ReturnedOn book.old (event.Delivery d) sheet.old sheet.new book.new result.outcome result.count }
 {
-    let places = sheet.len();
-    let done = book::delivery(book, places, d);
-    fill(sheet, done.pieces);
-    reported(done)
+    step(book, sheet, Event::Delivery(d))
 }
 
-pub fn confirm(book: Book, sheet: &mut [Piece], c: Confirm) -> Written
-    requires { Valid book }
-    ensures { ReturnedOn book (event.Confirm c) sheet.old sheet.new result.book result.outcome result.count }
+pub fn confirm(book: &mut Book, sheet: &mut [Piece], c: Confirm) -> Written
+    requires { Valid book.old }
+    ensures { ReturnedOn book.old (event.Confirm c) sheet.old sheet.new book.new result.outcome result.count }
 {
-    let places = sheet.len();
-    let done = book::confirm(book, places, c);
-    fill(sheet, done.pieces);
-    reported(done)
+    step(book, sheet, Event::Confirm(c))
 }
 
-pub fn cash(book: Book, sheet: &mut [Piece], c: Cash) -> Written
-    requires { Valid book }
-    ensures { ReturnedOn book (event.Cash c) sheet.old sheet.new result.book result.outcome result.count }
+pub fn cash(book: &mut Book, sheet: &mut [Piece], c: Cash) -> Written
+    requires { Valid book.old }
+    ensures { ReturnedOn book.old (event.Cash c) sheet.old sheet.new book.new result.outcome result.count }
 {
-    let places = sheet.len();
-    let done = book::cash(book, places, c);
-    fill(sheet, done.pieces);
-    reported(done)
+    step(book, sheet, Event::Cash(c))
 }
 
-pub fn pair_off(book: Book, sheet: &mut [Piece], x: PairOff) -> Written
-    requires { Valid book }
-    ensures { ReturnedOn book (event.PairOff x) sheet.old sheet.new result.book result.outcome result.count }
+pub fn pair_off(book: &mut Book, sheet: &mut [Piece], x: PairOff) -> Written
+    requires { Valid book.old }
+    ensures { ReturnedOn book.old (event.PairOff x) sheet.old sheet.new book.new result.outcome result.count }
 {
-    let places = sheet.len();
-    let done = book::pair_off(book, places, x);
-    fill(sheet, done.pieces);
-    reported(done)
-}
-
-// One event, by the call of its kind.
-pub fn step(book: Book, sheet: &mut [Piece], e: Event) -> Written
-    requires { Valid book }
-    ensures { ReturnedOn book e sheet.old sheet.new result.book result.outcome result.count }
-{
-    let places = sheet.len();
-    let done = book::step(book, places, e);
-    fill(sheet, done.pieces);
-    reported(done)
+    step(book, sheet, Event::PairOff(x))
 }

@@ -15,7 +15,8 @@ pub struct Prices {
     pub days: [BusinessDay; SECURITIES],
 }
 
-// The auction on a short; position 0: none runs.
+// The auction on a short; position 0: none runs, as `no_auction` of the plain book has it. Its offers and the marks and pieces below are arrays of the most
+// places with a count, since the project has no heap.
 #[derive(Clone, Copy)]
 pub struct Auction {
     pub position: u16,

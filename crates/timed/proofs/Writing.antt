@@ -4,12 +4,16 @@ use native.Mathlib.Omega.{arith}
 use mathlib.Core.Path.{◌≡◌, refl, ap, sym, ◌∙◌}
 use mathlib.Core.List.{List, [], ◌++◌, append_assoc}
 use lib.ListN.{length}
+use Rattle.std.proofs.Common.{Ok, Err}
+use Rattle.laws.specs.Answers.{number, number_some}
 use Rattle.laws.specs.Refusals.{accepted_zero, accepted_not}
+use Rattle.laws.specs.declared.Refusal.{Refusal}
 use Rattle.events.specs.declared.Event.{Event}
 use Rattle.files.specs.File.{events_of}
 use Rattle.plain.specs.Book as plain
 use Rattle.machine.specs.declared.Core.{Core}
-use Rattle.machine.specs.View.{Numbers, book_of, Held}
+use Rattle.machine.specs.declared.Numbers.{Numbers}
+use Rattle.machine.specs.View.{book_of, Held}
 use Rattle.report.specs.Lines.{LINE, refusal_line}
 use Rattle.report.specs.Pages.{Put, Wrote, put_none, put_length, put_lent, put_text, put_wrote, none_wrote, wrote_lent, wrote_text, lent, back, length_lent}
 use Rattle.transcript.specs.declared.Started.{Started}
@@ -72,23 +76,23 @@ ended es b entry page after bytes part m room g w =
     (ap (λ (l : List ℕ). g.text ++ l) (none_left es after (length es) (omega arith)) ∙ g.rest)
     (wrote_lent g.text entry page bytes g.put END (end_text after) part m room w)
 
-module _ (input : List ℕ) (r : Started) (s : StartedOn input r) where
-  -- a refused input
-  pub refused_play : (entry exit : List ℕ) (n : ℕ) → (r.number ≡ 0 → ⊥) → Wrote LINE (refusal_line r.number) entry exit n → Wrote (room_for input) (transcript input) entry exit n
-  unfolding room_for
-  refused_play entry exit n some w =
-      rw (accepted_not (input_refusal input) (BLOCK * length (events_in input) + END) LINE (λ z. some (s.number ∙ z))) (wrote_text LINE _ _ entry exit n (refused input r s some) w)
+-- a refused input
+pub refused_play : (input : List ℕ) (r : Refusal) → StartedOn input (Err r) → (entry exit : List ℕ) (n : ℕ) → Wrote LINE (refusal_line (number r)) entry exit n → Wrote (room_for input) (transcript input) entry exit n
+unfolding room_for
+refused_play input r on entry exit n w =
+    rw (accepted_not (input_refusal input) (BLOCK * length (events_in input) + END) LINE (λ z. number_some r (on.number ∙ z))) (wrote_text LINE _ _ entry exit n (refused input r on) w)
 
-  room : r.number ≡ 0 → room_for input ≡ BLOCK * length (events_in input) + END
+module _ (input : List ℕ) (s : Started) (on : StartedOn input (Ok s)) where
+  room : room_for input ≡ BLOCK * length (events_in input) + END
   unfolding room_for
-  room none = accepted_zero (input_refusal input) (BLOCK * length (events_in input) + END) LINE (sym s.number ∙ none)
+  room = accepted_zero (input_refusal input) (BLOCK * length (events_in input) + END) LINE (sym on.number)
 
   -- a page that is too short
-  pub no_room : (entry : List ℕ) → r.number ≡ 0 → length entry < BLOCK * length (events_in input) + END → Wrote (room_for input) (transcript input) entry entry 0
-  no_room entry none short = rw (room none) (none_wrote (BLOCK * length (events_in input) + END) (transcript input) entry short)
+  pub no_room : (entry : List ℕ) → length entry < BLOCK * length (events_in input) + END → Wrote (room_for input) (transcript input) entry entry 0
+  no_room entry short = rw room (none_wrote (BLOCK * length (events_in input) + END) (transcript input) entry short)
 
   -- and one that is not
-  pub written_play : (entry exit : List ℕ) (n : ℕ) → r.number ≡ 0 → BLOCK * length (events_in input) + END ≤ length entry → n ≤ BLOCK * length (events_in input) + END → Put (left (events_in input) (opened input) 0) entry exit n → Wrote (room_for input) (transcript input) entry exit n
-  written_play entry exit n none long most put =
-      let all = put_text _ _ entry exit n (all_left input r s none) put in
-      rw (room none) (put_wrote (BLOCK * length (events_in input) + END) (transcript input) entry exit n long (omega (arith, all.bytes, most)) all)
+  pub written_play : (entry exit : List ℕ) (n : ℕ) → BLOCK * length (events_in input) + END ≤ length entry → n ≤ BLOCK * length (events_in input) + END → Put (left (events_in input) (opened input) 0) entry exit n → Wrote (room_for input) (transcript input) entry exit n
+  written_play entry exit n long most put =
+      let all = put_text _ _ entry exit n (all_left input s on) put in
+      rw room (put_wrote (BLOCK * length (events_in input) + END) (transcript input) entry exit n long (omega (arith, all.bytes, most)) all)

@@ -6,19 +6,16 @@ ghost use Rattle.std.specs.Prelude.{◌+◌, ◌*◌, ◌≤◌, ◌≡◌, leng
 ghost use Rattle.laws.specs.Limits.{SHEET_CELLS};
 ghost use Rattle.files.specs.File.{events_of};
 ghost use Rattle.plain.specs.Book as plain;
-ghost use Rattle.ledger.specs.Posts.{ledger_of};
-ghost use Rattle.machine.specs.View.{numbers, book_of, Held};
-ghost use Rattle.replay.specs.Replay.{NewlyHeld, OpensAs};
+ghost use Rattle.machine.specs.View.{book_of, Held};
+ghost use Rattle.calls.specs.Opening.{NewlyHeld, OpensAs};
 ghost use Rattle.report.specs.Pages.{Put, Wrote};
 ghost use Rattle.transcript.specs.Transcript.{transcript};
 ghost use Rattle.transcript.specs.Playing.{BLOCK, END};
 ghost use Rattle.transcript.specs.Whole.{left};
 ghost use Rattle.timed.specs.Play.{Begun, room_for};
 
-use calls::Core;
-use laws::{
-    ACCOUNTS, AWARD_CELLS, COUNT_CELLS, POSITION_CELLS, SECURITIES, SHEET_CELLS, TRADE_CELLS,
-};
+use calls::{Core, Numbers};
+use laws::SHEET_CELLS;
 
 // The core after all events of a file, and how many bytes their lines have.
 #[derive(Drop)]
@@ -27,47 +24,25 @@ pub struct Written {
     pub bytes: usize,
 }
 
-// Writes the lines of all events of a file into the page's first bytes.
+// Writes the lines of all events of a file into the page's first bytes. How far a part goes is told by the call, so the loop counts no index.
 fn write_events(
     page: &mut [u8],
     file: &[u8],
     core: Core,
-    rows: &mut [u32; POSITION_CELLS],
-    trades: &mut [u32; TRADE_CELLS],
-    awards: &mut [u32; AWARD_CELLS],
-    counts: &mut [u32; COUNT_CELLS],
-    starts: &mut [usize; SECURITIES],
-    words: &mut [u64; SECURITIES],
-    credits: &mut [u64; ACCOUNTS],
-    debits: &mut [u64; ACCOUNTS],
+    lent: &mut Numbers,
     sheet: &mut [u64; SHEET_CELLS],
 ) -> Written
-    requires { (Held core (numbers rows.old trades.old awards.old counts.old starts.old words.old (ledger_of credits.old debits.old))) × (length sheet.old ≡ SHEET_CELLS) × (BLOCK * length (events_of file.now) ≤ length page.old) }
-    ensures { (Held result.core (numbers rows.new trades.new awards.new counts.new starts.new words.new (ledger_of credits.new debits.new))) × (Begun (events_of file.now) (book_of core (numbers rows.old trades.old awards.old counts.old starts.old words.old (ledger_of credits.old debits.old))) page.old page.new (book_of result.core (numbers rows.new trades.new awards.new counts.new starts.new words.new (ledger_of credits.new debits.new))) (length (events_of file.now)) result.bytes) × (result.bytes ≤ BLOCK * length (events_of file.now)) × (result.bytes ≤ BLOCK * 65535) }
+    requires { (Held core lent.old) × (length sheet.old ≡ SHEET_CELLS) × (BLOCK * length (events_of file.now) ≤ length page.old) }
+    ensures { (Held result.core lent.new) × (Begun (events_of file.now) (book_of core lent.old) page.old page.new (book_of result.core lent.new) (length (events_of file.now)) result.bytes) × (result.bytes ≤ BLOCK * length (events_of file.now)) × (result.bytes ≤ BLOCK * 65535) }
 {
     let count = files::events_in(file) as usize;
     let mut played = core;
     let mut i: usize = 0;
     let mut bytes: usize = 0;
     while i < count {
-        let some = transcript::play_events(
-            &mut page[bytes..],
-            file,
-            played,
-            rows,
-            trades,
-            awards,
-            counts,
-            starts,
-            words,
-            credits,
-            debits,
-            sheet,
-            i,
-        );
+        let some = transcript::play_events(&mut page[bytes..], file, played, lent, sheet, i);
         bytes += some.used;
-        let after = some.core;
-        played = after;
+        played = some.core;
         i = some.next;
     }
     Written {
@@ -81,32 +56,11 @@ fn write_played(page: &mut [u8], file: &[u8], core: Core) -> usize
     requires { (NewlyHeld core) × (BLOCK * length (events_of file.now) + END ≤ length page.old) }
     ensures { ((b : plain.Book) → OpensAs core b → Put (left (events_of file.now) b 0) page.old page.new result) × (result ≤ BLOCK * length (events_of file.now) + END) }
 {
-    let mut rows = calls::blank_rows();
-    let mut trades = calls::blank_trades();
-    let mut awards = calls::blank_awards();
-    let mut counts = calls::no_counts();
-    let mut starts = calls::no_starts();
-    let mut words = calls::no_words();
-    let mut credits = calls::no_cents();
-    let mut debits = calls::no_cents();
+    let mut lent = calls::new_numbers();
     let mut sheet = pieces::blank_numbers();
-    let written = write_events(
-        page,
-        file,
-        core,
-        &mut rows,
-        &mut trades,
-        &mut awards,
-        &mut counts,
-        &mut starts,
-        &mut words,
-        &mut credits,
-        &mut debits,
-        &mut sheet,
-    );
+    let written = write_events(page, file, core, &mut lent, &mut sheet);
     let bytes = written.bytes;
-    let after = written.core;
-    bytes + transcript::end_lines(&mut page[bytes..], after, &rows, &credits, &debits)
+    bytes + transcript::end_lines(&mut page[bytes..], written.core, &lent.rows, &lent.ledger)
 }
 
 // What the player prints for an input, written into the page's first bytes: how many bytes it has. The page has room for 82,000 bytes an event
@@ -115,16 +69,14 @@ fn write_played(page: &mut [u8], file: &[u8], core: Core) -> usize
 pub extern "C" fn timed_play(input: &[u8], page: &mut [u8]) -> u64
     ensures { Wrote (room_for input.now) (transcript input.now) page.old page.new result }
 {
-    let started = transcript::start(input);
-    let number = started.number;
-    if number != 0 {
-        return report::refusal_line(page, number) as u64;
-    }
-    let file = started.file;
-    let core = started.core;
-    let count = files::events_in(&input[file..]) as usize;
+    let started = match transcript::start(input) {
+        Ok(started) => started,
+        Err(refusal) => return report::refusal_line(page, u8::from(refusal)) as u64,
+    };
+    let file = &input[started.file..];
+    let count = files::events_in(file) as usize;
     if page.len() < transcript::BLOCK * count + transcript::END {
         return 0;
     }
-    write_played(page, &input[file..], core) as u64
+    write_played(page, file, started.core) as u64
 }

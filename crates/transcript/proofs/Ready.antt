@@ -5,7 +5,9 @@ use mathlib.Core.Path.{◌≡◌, ap, ◌∙◌, subst}
 use mathlib.Core.List.{List}
 use lib.ListN.{length, take, drop, length-drop}
 use lib.Seq.{take_all}
-use Rattle.replay.specs.declared.Checked.{Checked}
+use Rattle.std.proofs.Common.{Result, Ok, Err}
+use Rattle.laws.specs.declared.Refusal.{Refusal}
+use Rattle.machine.specs.declared.Core.{Core}
 use Rattle.replay.specs.Replay.{ReadyFor}
 use Rattle.transcript.specs.Parts.{take_min, drop_min}
 use Rattle.transcript.specs.Transcript.{register_length, register_in, file_in, input_refusal}
@@ -25,8 +27,16 @@ module _ (input : List ℕ) (end : ℕ) (is : end ≡ min (register_length input
       ∙ ap (λ (k : ℕ). drop k input) is
       ∙ drop_min (register_length input) input
 
-  pub started : (r : Checked) → ReadyFor (take end input) (take (length input - end) (drop end input)) r → StartedOn input (record { number = r.number; file = end; core = r.core })
+  checked : (r : Result Core Refusal) → ReadyFor (take end input) (take (length input - end) (drop end input)) r → ReadyFor (register_in input) (file_in input) r
+  checked r k =
+      subst (λ (l : List ℕ). ReadyFor (register_in input) l r) back (subst (λ (l : List ℕ). ReadyFor l (take (length input - end) (drop end input)) r) front k)
+
+  pub refused : (r : Refusal) → ReadyFor (take end input) (take (length input - end) (drop end input)) (Err r) → StartedOn input (Err r)
   unfolding input_refusal
-  started r k =
-      let same : ReadyFor (register_in input) (file_in input) r = subst (λ (l : List ℕ). ReadyFor (register_in input) l r) back (subst (λ (l : List ℕ). ReadyFor l (take (length input - end) (drop end input)) r) front k) in
-      record { number = same.number; file = is; book = same.book; held = same.held; opened = same.opened }
+  refused r k = record { number = (checked (Err r) k).number; ready = tt }
+
+  pub started : (b : Core) → ReadyFor (take end input) (take (length input - end) (drop end input)) (Ok b) → StartedOn input (Ok (record { file = end; core = b }))
+  unfolding input_refusal
+  started b k =
+      let same = checked (Ok b) k in
+      record { number = same.number; ready = record { file = is; opened = same.opened } }

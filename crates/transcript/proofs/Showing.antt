@@ -10,15 +10,15 @@ use Rattle.laws.specs.Asked.{Said, passed, failed, ask}
 use Rattle.events.specs.declared.Event.{Event}
 use Rattle.events.specs.declared.Event.TheVariants as event
 use Rattle.files.specs.File.{events_of}
-use Rattle.plain.specs.declared.Outcome.{Outcome}
+use Rattle.laws.specs.Answers.{Outcome, number_in, quantity_of}
 use Rattle.plain.specs.Calls.{call}
 use Rattle.plain.specs.Refusals.{refusal}
 use Rattle.plain.specs.Book as plain
 use Rattle.plain.specs.Histories.{next, pieces, quantity, run, calls_of}
 use Rattle.pieces.specs.Sheet.{pieces_of, sheet_with}
-use Rattle.kept.specs.View.{number_of, quantity_of}
 use Rattle.machine.specs.declared.Core.{Core}
-use Rattle.machine.specs.View.{Numbers, book_of, Held}
+use Rattle.machine.specs.declared.Numbers.{Numbers}
+use Rattle.machine.specs.View.{book_of, Held}
 use Rattle.calls.specs.Stepping.{Stepped}
 use Rattle.machine.specs.Answers.{answered_number, answered_quantity}
 use Rattle.report.specs.Lines.{LINE, event_lines}
@@ -38,12 +38,12 @@ pub record Shown (b : Core) (a : Numbers) (e : Event) (number : ℕ) (entry exit
 
 -- its number, quantity and pieces are written as it answered them, the pieces from the sheet as it left it
 pub shown : (b : Core) (a : Numbers) (e : Event) (number : ℕ) (entry exit : List ℕ) (after : Core) (z : Numbers) (sheet left : List ℕ) (o : Outcome) (n used : ℕ) → BLOCK ≤ length entry → Stepped b a e sheet after z left o n
-    → Wrote (LINE * (1 + min n 1024)) (event_lines number (number_of o) (quantity_of o) (take n (pieces_of left))) entry exit used
+    → Wrote (LINE * (1 + min n 1024)) (event_lines number (number_in o) (quantity_of o) (take n (pieces_of left))) entry exit used
     → Shown b a e number entry exit after z used
 unfolding event_text
 shown b a e number entry exit after z sheet left o n used room d w =
     let s = d.called.returned in
-    let text : event_lines number (number_of o) (quantity_of o) (take n (pieces_of left)) ≡ event_text (book_of b a) number e = rw (answered_number o (refusal (book_of b a) (call e 1024)) (quantity (book_of b a) (call e 1024)) s.outcome, answered_quantity (book_of b a) (call e 1024) o s.outcome, s.pieces) in
+    let text : event_lines number (number_in o) (quantity_of o) (take n (pieces_of left)) ≡ event_text (book_of b a) number e = rw (answered_number (book_of b a) (call e 1024) o s.outcome, answered_quantity (book_of b a) (call e 1024) o s.outcome, s.pieces) in
     record {
       text = put_text _ _ entry exit used text (wrote_put _ _ entry exit used (omega (arith, room)) w);
       fits = omega (arith, w.most);

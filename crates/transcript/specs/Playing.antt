@@ -1,26 +1,29 @@
 -- What the functions that write the transcript's blocks answer.
-use Rattle.std.specs.Prelude.{ℕ, ◌+◌, ◌-◌, ◌*◌, ◌≤◌, ◌<◌, min, max, ◌≡◌, List, length, take, drop}
+use Rattle.std.specs.Prelude.{ℕ, ◌+◌, ◌-◌, ◌*◌, ◌≤◌, ◌<◌, min, max, ◌≡◌, List, length, take, drop, Result, Ok, IfOk}
+use Rattle.laws.specs.Answers.{number_in}
+use Rattle.laws.specs.declared.Refusal.{Refusal}
 use Rattle.events.specs.declared.Event.{Event}
 use Rattle.files.specs.File.{events_of}
 use Rattle.machine.specs.declared.Core.{Core}
-use Rattle.calls.specs.declared.Opened.{Opened}
 use Rattle.calls.specs.Opening.{OpenedOn}
-use Rattle.machine.specs.View.{Numbers, book_of}
-use Rattle.replay.specs.Replay.{NewlyHeld, OpensAs, PlayedUpTo}
+use Rattle.machine.specs.declared.Numbers.{Numbers}
+use Rattle.machine.specs.View.{book_of}
+use Rattle.replay.specs.Replay.{PlayedUpTo}
 use Rattle.report.specs.Lines.{LINE}
 use Rattle.report.specs.Pages.{Put}
 use Rattle.transcript.specs.declared.Started.{Started}
 use Rattle.transcript.specs.declared.Played.{Played}
-use Rattle.transcript.specs.Transcript.{register_length, register_in, events_text, input_refusal, opened}
+use Rattle.transcript.specs.Transcript.{register_length, register_in, events_text, input_refusal}
 
--- what is answered before the first event: the refusal, or 0; where the file begins; and the new book, with whatever blank numbers
-pub record StartedOn (input : List ℕ) (r : Started) : Type 0 where
-  pub number : r.number ≡ input_refusal input
-  pub file : r.file ≡ min (register_length input) (length input)
-  pub book : OpensAs r.core (opened input)
-  pub held : r.number ≡ 0 → NewlyHeld r.core
-  -- the core is the one that opening answered to the input's register
-  pub opened : ((o : Opened) × (OpenedOn (register_in input) o) × (o.core ≡ r.core))
+-- an input that is not refused: where its file begins, and the core that opening answered to its register
+pub record Ready (input : List ℕ) (s : Started) : Type 0 where
+  pub file : s.file ≡ min (register_length input) (length input)
+  pub opened : OpenedOn (register_in input) (Ok s.core)
+
+-- what is answered before the first event: the refusal, or that
+pub record StartedOn (input : List ℕ) (r : Result Started Refusal) : Type 0 where
+  pub number : number_in r ≡ input_refusal input
+  pub ready : IfOk r (Ready input)
 
 -- the most bytes that an event prints: its line, and those of 1,024 pieces
 abbrev pub BLOCK : ℕ

@@ -1,13 +1,16 @@
 -- The pages that are printed one after the other are the transcript.
-use Rattle.std.specs.Prelude.{ℕ, ◌+◌, ◌-◌, ◌≤◌, ◌≡◌, List, ◌++◌, length, take, drop}
+use Rattle.std.specs.Prelude.{ℕ, ◌+◌, ◌-◌, ◌≤◌, ◌≡◌, List, ◌++◌, length, take, drop, Ok, Err}
 use Rattle.std.proofs.Common.{arith, ap, ap₂, sym, ◌∙◌, append_assoc, length-drop, drop_of_length-le, length-take-le}
+use Rattle.laws.specs.Answers.{number, number_some}
 use Rattle.laws.specs.Refusals.{accepted_zero, accepted_not}
+use Rattle.laws.specs.declared.Refusal.{Refusal}
 use Rattle.events.specs.declared.Event.{Event}
 use Rattle.files.specs.File.{events_of}
 use Rattle.plain.specs.Book as plain
 use Rattle.plain.specs.Histories.{run, calls_of}
 use Rattle.machine.specs.declared.Core.{Core}
-use Rattle.machine.specs.View.{Numbers, book_of, Blank}
+use Rattle.machine.specs.declared.Numbers.{Numbers}
+use Rattle.machine.specs.View.{book_of, Blank}
 use Rattle.report.specs.Lines.{refusal_line}
 use Rattle.report.specs.Pages.{put_front}
 use Rattle.transcript.specs.declared.Started.{Started}
@@ -59,21 +62,21 @@ rest_printed file within (page {b = b} {a = a} {i = i} {entry = entry} {exit = e
     ∙ page_left file within p
 
 -- an input that is not refused: all that is left at its first event is the transcript
-pub all_left : (input : List ℕ) (r : Started) → StartedOn input r → r.number ≡ 0 → left (events_in input) (opened input) 0 ≡ transcript input
+pub all_left : (input : List ℕ) (s : Started) → StartedOn input (Ok s) → left (events_in input) (opened input) 0 ≡ transcript input
 unfolding transcript
-all_left input r s e =
-    sym (accepted_zero (input_refusal input) (left (events_in input) (opened input) 0) (refusal_line (input_refusal input)) (sym s.number ∙ e))
+all_left input s on =
+    sym (accepted_zero (input_refusal input) (left (events_in input) (opened input) 0) (refusal_line (input_refusal input)) (sym on.number))
 
 -- what is printed for it is the transcript
-pub whole : (input : List ℕ) (r : Started) (a : Numbers) {text : List ℕ} → StartedOn input r → Blank a → r.number ≡ 0 → Printed (file_in input) r.core a 0 text → text ≡ transcript input
-whole input r a s blank e p =
+pub whole : (input : List ℕ) (s : Started) (a : Numbers) {text : List ℕ} → StartedOn input (Ok s) → Blank a → Printed (file_in input) s.core a 0 text → text ≡ transcript input
+whole input s a on blank p =
     rest_printed (file_in input) (omega arith) p
-    ∙ ap (λ (b : plain.Book). left (events_in input) b 0) (s.book a blank)
-    ∙ all_left input r s e
+    ∙ ap (λ (b : plain.Book). left (events_in input) b 0) (on.ready.opened.opened.book a blank)
+    ∙ all_left input s on
 
 -- a refused input: the line of its refusal is
-pub refused : (input : List ℕ) (r : Started) → StartedOn input r → (r.number ≡ 0 → ⊥) → refusal_line r.number ≡ transcript input
+pub refused : (input : List ℕ) (r : Refusal) → StartedOn input (Err r) → refusal_line (number r) ≡ transcript input
 unfolding transcript
-refused input r s n =
-    ap refusal_line s.number
-    ∙ sym (accepted_not (input_refusal input) (left (events_in input) (opened input) 0) (refusal_line (input_refusal input)) (λ z. n (s.number ∙ z)))
+refused input r on =
+    ap refusal_line on.number
+    ∙ sym (accepted_not (input_refusal input) (left (events_in input) (opened input) 0) (refusal_line (input_refusal input)) (λ z. number_some r (on.number ∙ z)))

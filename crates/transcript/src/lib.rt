@@ -3,29 +3,25 @@
 
 ghost use Rattle.std.specs.Prelude.{◌≡◌, ◌+◌, ◌*◌, min, length, take};
 ghost use Rattle.laws.specs.Limits.{PLACES, SHEET_CELLS};
-ghost use Rattle.plain.specs.declared.Outcome.TheVariants as outcome;
 ghost use Rattle.pieces.specs.Sheet.{pieces_of};
 ghost use Rattle.plain.specs.Histories.{calls_of};
-ghost use Rattle.kept.specs.View.{number_of, quantity_of};
+ghost use Rattle.laws.specs.Answers.{number_in, quantity_of};
 ghost use Rattle.replay.specs.Replay.{sheet_after};
-ghost use Rattle.ledger.specs.Posts.{ledger_of};
-ghost use Rattle.machine.specs.View.{Numbers, numbers, on_rows, on_ledger, book_of, Held};
+ghost use Rattle.machine.specs.declared.Numbers.{Numbers};
+ghost use Rattle.machine.specs.View.{on_rows, on_ledger, book_of, Held};
 ghost use Rattle.report.specs.Lines.{LINE, event_lines};
 ghost use Rattle.report.specs.Pages.{Wrote};
 ghost use Rattle.transcript.specs.Transcript.{register_length, end_text};
 ghost use Rattle.transcript.specs.Playing.{StartedOn, BLOCK, END, PlayedOn, between};
 
-use calls::{Answered, Core};
+use calls::{Core, Numbers};
 use events::Event;
-use laws::{
-    ACCOUNTS, AWARD_CELLS, COUNT_CELLS, POSITION_CELLS, SECURITIES, SHEET_CELLS, TRADE_CELLS,
-};
-use plain::Outcome;
+use laws::{POSITION_CELLS, Refusal, SHEET_CELLS};
+use plain::Ledger;
 
-// What the input answers before its first event: a refusal number, or 0; where its file begins; and the core of its register's new book.
+// Where an input's file begins, and the core of its register's new book.
 #[derive(Clone, Copy)]
 pub struct Started {
-    pub number: u8,
     pub file: usize,
     pub core: Core,
 }
@@ -56,38 +52,24 @@ fn register_end(input: &[u8]) -> usize
         return length;
     }
     let count = words::word16(input[0], input[1]) as usize;
-    let end = 2 + 13 * count;
-    if end < length { end } else { length }
+    length.min(2 + 13 * count)
 }
 
-pub fn start(input: &[u8]) -> Started
+pub fn start(input: &[u8]) -> Result<Started, Refusal>
     ensures { StartedOn input.now result }
 {
     let file = register_end(input);
-    let opened = replay::ready(&input[..file], &input[file..]);
-    let core = opened.core;
-    Started {
-        number: opened.number,
-        file,
-        core,
-    }
+    let core = replay::ready(&input[..file], &input[file..])?;
+    Ok(Started { file, core })
 }
 
-fn number_of(outcome: Outcome) -> u8
-    ensures { result ≡ number_of outcome }
+// The number of an outcome, 0 where nothing turns the call down.
+fn number_of(outcome: Result<u32, Refusal>) -> u8
+    ensures { result ≡ number_in outcome }
 {
     match outcome {
-        Outcome::Done(_) => 0,
-        Outcome::Refused(number) => number,
-    }
-}
-
-fn quantity_of(outcome: Outcome) -> u32
-    ensures { result ≡ quantity_of outcome }
-{
-    match outcome {
-        Outcome::Done(quantity) => quantity,
-        Outcome::Refused(_) => 0,
+        Ok(_) => 0,
+        Err(refusal) => u8::from(refusal),
     }
 }
 
@@ -95,84 +77,62 @@ fn quantity_of(outcome: Outcome) -> u32
 pub fn answer_lines(
     page: &mut [u8],
     number: u32,
-    outcome: Outcome,
+    outcome: Result<u32, Refusal>,
     sheet: &[u64; SHEET_CELLS],
     pieces: usize,
 ) -> usize
-    ensures { Wrote (LINE * (1 + min pieces PLACES)) (event_lines number (number_of outcome) (quantity_of outcome) (take pieces (pieces_of sheet.now))) page.old page.new result }
+    ensures { Wrote (LINE * (1 + min pieces PLACES)) (event_lines number (number_in outcome) (quantity_of outcome) (take pieces (pieces_of sheet.now))) page.old page.new result }
 {
     let refusal = number_of(outcome);
-    let quantity = quantity_of(outcome);
-    report::event_lines(page, number, refusal, quantity, sheet, pieces)
-}
-
-// A core on which no event was played yet, as an answer.
-fn unplayed(core: Core) -> Answered
-    ensures { result ≡ record { core = core; outcome = outcome.Done 0; pieces = 0 } }
-{
-    let outcome = Outcome::Done(0);
-    Answered {
-        core,
-        outcome,
-        pieces: 0,
-    }
+    report::event_lines(page, number, refusal, outcome.unwrap_or(0), sheet, pieces)
 }
 
 // Events of a file, from a place on, as long as the page has room for one more with all its pieces. Each arm assigns the answer itself: where
-// ways of returning a core join, as in `calls::step`, the compiler copies it.
+// ways of returning a core join, as in `calls::step`, the compiler copies it. The loop has two tests, so it is no range.
 pub fn play_events(
     page: &mut [u8],
     file: &[u8],
     core: Core,
-    rows: &mut [u32; POSITION_CELLS],
-    trades: &mut [u32; TRADE_CELLS],
-    awards: &mut [u32; AWARD_CELLS],
-    counts: &mut [u32; COUNT_CELLS],
-    starts: &mut [usize; SECURITIES],
-    words: &mut [u64; SECURITIES],
-    credits: &mut [u64; ACCOUNTS],
-    debits: &mut [u64; ACCOUNTS],
+    lent: &mut Numbers,
     sheet: &mut [u64; SHEET_CELLS],
     from: usize,
 ) -> Played
-    requires { (Held core (numbers rows.old trades.old awards.old counts.old starts.old words.old (ledger_of credits.old debits.old))) × (length sheet.old ≡ SHEET_CELLS) }
-    ensures { (PlayedOn file.now core (numbers rows.old trades.old awards.old counts.old starts.old words.old (ledger_of credits.old debits.old)) from page.old page.new (numbers rows.new trades.new awards.new counts.new starts.new words.new (ledger_of credits.new debits.new)) result) × (length sheet.new ≡ SHEET_CELLS) × (sheet.new ≡ sheet_after (book_of core (numbers rows.old trades.old awards.old counts.old starts.old words.old (ledger_of credits.old debits.old))) (calls_of (between file.now from result.next)) sheet.old) }
+    requires { (Held core lent.old) × (length sheet.old ≡ SHEET_CELLS) }
+    ensures { (PlayedOn file.now core lent.old from page.old page.new lent.new result) × (length sheet.new ≡ SHEET_CELLS) × (sheet.new ≡ sheet_after (book_of core lent.old) (calls_of (between file.now from result.next)) sheet.old) }
 {
     let count = files::events_in(file) as usize;
     let room = page.len();
-    let mut last = unplayed(core);
+    let mut last = machine::done(core, 0, 0);
     let mut next = from;
     let mut used: usize = 0;
     while next < count && used + BLOCK <= room {
         let event = files::event_at(file, next);
         match event {
-            Event::Trade(t) => last = calls::trade(last.core, trades, t),
+            Event::Trade(t) => last = calls::trade(last.core, &mut lent.trades, t),
             Event::Price(p) => last = calls::price(last.core, p),
-            Event::Delivery(d) => last = calls::delivery(
-                last.core, rows, awards, counts, starts, words, sheet, d,
-            ),
-            Event::Attempt(a) => last = calls::attempt(last.core, rows, a),
-            Event::Offer(o) => last = calls::offer(last.core, rows, words, o),
-            Event::Award(a) => last = calls::award(last.core, rows, awards, a),
-            Event::Confirm(c) => last = calls::confirm(
-                last.core, rows, awards, counts, starts, words, credits, debits, sheet, c,
-            ),
-            Event::Cash(c) => last = calls::cash(
-                last.core, rows, counts, starts, words, credits, debits, sheet, c,
-            ),
-            Event::Close => last = calls::close(
-                last.core, rows, trades, awards, counts, words, credits, debits,
-            ),
-            Event::PairOff(x) => last = calls::pair_off(
-                last.core, rows, awards, counts, words, sheet, x,
-            ),
+            Event::Delivery(d) => last = calls::delivery(last.core, lent, sheet, d),
+            Event::Attempt(a) => last = calls::attempt(last.core, &lent.rows, a),
+            Event::Offer(o) => last = calls::offer(last.core, &lent.rows, &lent.words, o),
+            Event::Award(a) => last = calls::award(last.core, &lent.rows, &mut lent.awards, a),
+            Event::Confirm(c) => last = calls::confirm(last.core, lent, sheet, c),
+            Event::Cash(c) => last = calls::cash(last.core, lent, sheet, c),
+            Event::Close => last = calls::close(last.core, lent),
+            Event::PairOff(x) => last = calls::pair_off(last.core, lent, sheet, x),
         }
-        let outcome = last.outcome;
         next += 1;
-        used += answer_lines(&mut page[used..], next as u32, outcome, sheet, last.pieces);
+        used += answer_lines(
+            &mut page[used..],
+            next as u32,
+            last.outcome,
+            sheet,
+            last.pieces,
+        );
     }
-    let core = last.core;
-    Played { core, next, used }
+    Played {
+        core: last.core,
+        next,
+        used,
+    }
 }
 
 // The lines of the positions and accounts.
@@ -180,16 +140,15 @@ pub fn end_lines(
     page: &mut [u8],
     core: Core,
     rows: &[u32; POSITION_CELLS],
-    credits: &[u64; ACCOUNTS],
-    debits: &[u64; ACCOUNTS],
+    ledger: &Ledger,
 ) -> usize
-    requires { (others : Numbers) × Held core (on_ledger (on_rows others rows.now) (ledger_of credits.now debits.now)) }
-    ensures { (others : Numbers) → Wrote END (end_text (book_of core (on_ledger (on_rows others rows.now) (ledger_of credits.now debits.now)))) page.old page.new result }
+    requires { (others : Numbers) × Held core (on_ledger (on_rows others rows.now) ledger.now) }
+    ensures { (others : Numbers) → Wrote END (end_text (book_of core (on_ledger (on_rows others rows.now) ledger.now))) page.old page.new result }
 {
     if page.len() < END {
         return 0;
     }
     let count = calls::position_count(core);
     let used = report::position_lines(page, rows, count);
-    used + report::account_lines(&mut page[used..], credits, debits)
+    used + report::account_lines(&mut page[used..], ledger)
 }

@@ -1,26 +1,15 @@
 -- `auctions::attempt` meets its contract.
 use native.Mathlib.Omega.{arith}
-use mathlib.Core.Path.{◌≡◌, sym, ◌∙◌}
+use mathlib.Core.Path.{◌≡◌, sym}
 use mathlib.Core.Bool.{true}
 use Rattle.laws.specs.Asked.{within, within_low, within_high, fails, passes}
 use Rattle.kept.specs.View.{view}
 use Rattle.kept.proofs.Auctions.{mark_room}
-use Rattle.machine.specs.View.{Numbers, on_rows}
+use Rattle.machine.specs.declared.Numbers.{Numbers}
+use Rattle.machine.specs.View.{on_rows}
 use Rattle.auctions.proofs.Auctioning.{attempt_missed, registered_at, attempt_refused, attempt_taken}
-use borrow.Author.Rules.{rules}
 use Rattle.auctions.proofs.attempt.Goals as goal
-use Rattle.auctions.proofs.attempt.Lts as lts
-use Rattle.auctions.proofs.attempt.Tie as tie
-use Rattle.auctions.proofs.attempt.Reads as reads
-
-abbrev Start : Type 0
-Start = lts.Start tie.the-claims reads.Pre reads.Post
-
-abbrev Else-not-is_within : Type 0
-Else-not-is_within = lts.Else1 tie.the-claims reads.Pre reads.Post
-
-abbrev After-row_at-p : Type 0
-After-row_at-p = lts.After-row_at tie.the-claims reads.Pre reads.Post
+use Rattle.auctions.proofs.attempt.Goals.{Start, Else-not-is_within, After-row_at-p}
 
 abbrev start : Else-not-is_within → Start
 start c = c.before.before.before
@@ -61,18 +50,18 @@ latest_of-latest-requires c =
 pub is_marked-marked-requires : goal.is_marked-marked-requires
 is_marked-marked-requires c = (start (looked c.before.before.before.before.before.before.before)).requires.1.valid.fits.marks
 
-pub returns-then-number-ne0 : goal.returns-then-number-ne0
-returns-then-number-ne0 c =
+pub returns-in-Err : goal.returns-in-Err
+returns-in-Err c =
     λ others h.
-    rw c.refused-then-number-ne0.ensures
-    (attempt_refused _ (on_rows others _) h _ (in_use (looked c.before.before.before.before.before.before.before.before.before.before.before.before)) _ c.row_at-p.ensures _ c.class_of-class.ensures _ c.latest_of-latest.ensures _ c.step_today-today.ensures _ c.is_marked-marked.ensures _ c.attempt_refusal-number.ensures c.if-number-ne0.true)
+    rw c.refused-in-Err.ensures
+    (attempt_refused _ (on_rows others _) h _ (in_use (looked c.before.before.before.before.before.before.before.before.before.before.before.before)) _ c.row_at-p.ensures _ c.class_of-class.ensures _ c.latest_of-latest.ensures _ c.step_today-today.ensures _ c.is_marked-marked.ensures _ c.in-Err.ensures)
 
 pub open_auction-after-requires : goal.open_auction-after-requires
 open_auction-after-requires c =
-    ((start (looked c.before.before.before.before.before.before.before.before.before.before.before.before.before)).requires.1.valid.fits.marks.places, mark_room _ _ _ _ _ _ _ (sym c.attempt_refusal-number.ensures ∙ c.if-number-ne0.false))
+    ((start (looked c.before.before.before.before.before.before.before.before.before.before.before.before.before)).requires.1.valid.fits.marks.places, mark_room _ _ _ _ _ _ _ (sym c.in_default.ensures))
 
 pub returns : goal.returns
 returns c =
     λ others h.
     rw (c.done.ensures, c.open_auction-after.ensures)
-    (attempt_taken _ (on_rows others _) h _ (in_use (looked c.before.before.before.before.before.before.before.before.before.before.before.before.before.before.before)) _ c.row_at-p.ensures _ c.class_of-class.ensures _ c.latest_of-latest.ensures _ c.step_today-today.ensures _ c.is_marked-marked.ensures _ c.attempt_refusal-number.ensures c.if-number-ne0.false _ c.price_of.ensures _ c.ceiling_of-ceiling.ensures)
+    (attempt_taken _ (on_rows others _) h _ (in_use (looked c.before.before.before.before.before.before.before.before.before.before.before.before.before.before.before)) _ c.row_at-p.ensures _ c.class_of-class.ensures _ c.latest_of-latest.ensures _ c.step_today-today.ensures _ c.is_marked-marked.ensures c.in_default.ensures _ c.price_of.ensures _ c.ceiling_of-ceiling.ensures)

@@ -1,55 +1,42 @@
 -- `auctions::offer` meets its contract.
 use Prim.Native.Nat.{◌<◌}
 use native.Mathlib.Omega.{arith}
-use mathlib.Core.Path.{◌≡◌, sym, ◌∙◌}
+use mathlib.Core.Path.{◌≡◌, sym}
 use Rattle.laws.specs.Asked.{within_low, within_high, Within}
 use Rattle.laws.specs.Refusals.{first}
 use Rattle.plain.specs.Refusals.{offer_reasons}
 use Rattle.kept.proofs.Auctions.{offer_held, offer_room}
-use Rattle.machine.specs.View.{Numbers, on_rows, on_words, kept_of}
+use Rattle.machine.specs.declared.Numbers.{Numbers}
+use Rattle.machine.specs.View.{on_rows, on_words, kept_of}
 use Rattle.auctions.proofs.Auctioning.{offer_turned, security_within, offer_refused, offer_taken}
 use borrow.Author.Rules.{rules}
 use Rattle.auctions.proofs.offer.Goals as goal
-use Rattle.auctions.proofs.offer.Lts as lts
-use Rattle.auctions.proofs.offer.Tie as tie
-use Rattle.auctions.proofs.offer.Reads as reads
+use Rattle.auctions.proofs.offer.Goals.{Start, In_default, After-row_at-short, In_default-auction_refusal}
 
-abbrev Start : Type 0
-Start = lts.Start tie.the-claims reads.Pre reads.Post
-
-abbrev Else-first-ne0 : Type 0
-Else-first-ne0 = lts.Else1 tie.the-claims reads.Pre reads.Post
-
-abbrev After-row_at-short : Type 0
-After-row_at-short = lts.After-row_at tie.the-claims reads.Pre reads.Post
-
-abbrev Else-number-ne0 : Type 0
-Else-number-ne0 = lts.Else2 tie.the-claims reads.Pre reads.Post
-
-abbrev start : Else-first-ne0 → Start
+abbrev start : In_default → Start
 start c = c.before.before
 
 abbrev entry : Start → Numbers
 entry s = on_words (on_rows s.requires.0 s.args.rows.now) s.args.words.now
 
-abbrev looked : After-row_at-short → Else-first-ne0
+abbrev looked : After-row_at-short → In_default
 looked r = r.before.before
 
-first_passed : (c : Else-first-ne0) → first (offer_reasons (start c).args.core.positions (start c).args.core.auction.position (start c).args.o) ≡ 0
-first_passed c = sym c.offer_refusal-first.ensures ∙ c.if-first-ne0.false
+first_passed : (c : In_default) → first (offer_reasons (start c).args.core.positions (start c).args.core.auction.position (start c).args.o) ≡ 0
+first_passed c = sym c.in_default.ensures
 
-inside : (c : Else-first-ne0) → Within 1 (start c).args.core.positions (start c).args.o.position
+inside : (c : In_default) → Within 1 (start c).args.core.positions (start c).args.o.position
 inside c =
     let s = start c in
     let w = offer_held (kept_of s.args.core (entry s)) s.args.o s.requires.1.valid (first_passed c) in
     record { above = within_low _ _ _ w; below = within_high _ _ _ w }
 
-room : (c : Else-number-ne0) → (start (looked c.before.before.before.before)).args.core.auction.count < 16
-room c = offer_room _ _ _ _ (sym c.auction_refusal-number.ensures ∙ c.if-number-ne0.false)
+room : (c : In_default-auction_refusal) → (start (looked c.before.before.before.before)).args.core.auction.count < 16
+room c = offer_room _ _ _ _ (sym c.in_default-auction_refusal.ensures)
 
-pub returns-then-first-ne0 : goal.returns-then-first-ne0
-returns-then-first-ne0 c =
-    λ others h. rw c.refused.ensures (offer_turned _ (on_words (on_rows others _) _) h _ _ c.offer_refusal-first.ensures c.if-first-ne0.true)
+pub returns-in-Err : goal.returns-in-Err
+returns-in-Err c =
+    λ others h. rw c.refused.ensures (offer_turned _ (on_words (on_rows others _) _) h _ _ c.in-Err.ensures)
 
 pub overflow_sub-place : goal.overflow_sub-place
 overflow_sub-place c = (inside c.before).above
@@ -63,11 +50,11 @@ word_of-word-requires c =
     let s = start (looked c) in
     (s.requires.1.lent.follows.failing.securities, security_within s.args.core (entry s) s.requires.1 s.args.o (first_passed (looked c)) _ c.row_at-short.ensures)
 
-pub returns-then-number-ne0 : goal.returns-then-number-ne0
-returns-then-number-ne0 c =
+pub returns-in-Err-auction_refusal : goal.returns-in-Err-auction_refusal
+returns-in-Err-auction_refusal c =
     λ others h.
-    rw c.refused-then-number-ne0.ensures
-    (offer_refused _ (on_words (on_rows others _) _) h _ (first_passed (looked c.before.before.before.before.before)) _ c.row_at-short.ensures _ c.word_of-word.ensures _ c.is_failing-fails.ensures _ c.auction_refusal-number.ensures c.if-number-ne0.true)
+    rw c.refused-in-Err-auction_refusal.ensures
+    (offer_refused _ (on_words (on_rows others _) _) h _ (first_passed (looked c.before.before.before.before.before)) _ c.row_at-short.ensures _ c.word_of-word.ensures _ c.is_failing-fails.ensures _ c.in-Err-auction_refusal.ensures)
 
 pub offset_bounds-entered-n : goal.offset_bounds-entered-n
 offset_bounds-entered-n c = search (rules, room c.before)
@@ -82,4 +69,4 @@ pub returns : goal.returns
 returns c =
     λ others h.
     rw c.done.ensures
-    (offer_taken _ (on_words (on_rows others _) _) h _ (first_passed (looked c.before.before.before.before.before.before)) _ c.row_at-short.ensures _ c.word_of-word.ensures _ c.is_failing-fails.ensures _ c.auction_refusal-number.ensures c.if-number-ne0.false)
+    (offer_taken _ (on_words (on_rows others _) _) h _ (first_passed (looked c.before.before.before.before.before.before)) _ c.row_at-short.ensures _ c.word_of-word.ensures _ c.is_failing-fails.ensures c.in_default-auction_refusal.ensures)

@@ -7,5 +7,4 @@ use Rattle.book.proofs.small_sheet.Goals as goal
 
 pub returns : goal.returns
 unfolding pieces
-returns c =
-    record { book = refl; outcome = refl; pieces = refl; pieces_fit = record { places = c.blank_pieces-items.ensures.1; held = omega arith } }
+returns c = record { outcome = refl; pieces = refl; pieces_fit = record { places = c.blank_pieces.ensures.1; held = omega arith } }

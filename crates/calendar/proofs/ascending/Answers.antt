@@ -1,39 +1,17 @@
-use native.Mathlib.Omega.{arith}
-use Prim.Native.Nat.{ℕ, ◌-◌, ◌+◌}
-use mathlib.Core.Path.{◌≡◌, ap, ◌∙◌}
-use Rattle.calendar.specs.BusinessDays as days
-use Rattle.calendar.specs.BusinessDays.{above}
-use Rattle.calendar.specs.Holidays.{remaining, none_ascend, ascend_first, next_below, next_above, last_above}
+-- `calendar::ascending` meets its contract.
+use Rattle.std.proofs.Common.{ℕ, ◌-◌, ◌/◌, ltb, rules, tests, length, ◌∙◌}
+use Rattle.std.proofs.lemmas.Iterator.{YieldsList-from_range}
+use Rattle.std.proofs.lemmas.Iterator.Search.{all_from_yields_List}
+use Rattle.laws.specs.Chains.{all_range}
+use Rattle.calendar.specs.BusinessDays.{date_at, holidays}
+use Rattle.calendar.proofs.Rising.{ascends}
 use Rattle.calendar.proofs.ascending.Goals as goal
 
-pub returns-then-count-eq0 : goal.returns-then-count-eq0
-returns-then-count-eq0 c = none_ascend c.args.holidays.now c.if-count-eq0.true
-
-pub holiday-last-requires : goal.holiday-last-requires
-holiday-last-requires c = omega arith
-
-pub loop-i-init : goal.loop-i-init
-loop-i-init c =
-    ap (λ (d : ℕ). above d (remaining c.args.holidays.now 1)) c.holiday-last.ensures
-    ∙ ascend_first c.args.holidays.now (omega arith)
-
-pub holiday-next-requires : goal.holiday-next-requires
-holiday-next-requires c = omega arith
-
-pub returns-then-next-last : goal.returns-then-next-last
-returns-then-next-last c =
-    next_below c.args.holidays.now c.loop-i.last c.loop-i.i c.loop-i-test.true (omega (arith, c.holiday-next.ensures)) ∙ c.loop-i.invariant
-
-pub overflow_add-i : goal.overflow_add-i
-overflow_add-i c = omega arith
-
-pub loop-i-smaller : goal.loop-i-smaller
-loop-i-smaller c = omega arith
-
-pub loop-i-preserved : goal.loop-i-preserved
-loop-i-preserved c =
-    ap (λ (d : ℕ). above d (remaining c.args.holidays.now (c.loop-i.i + 1))) c.holiday-next.ensures
-    ∙ (next_above c.args.holidays.now c.loop-i.last c.loop-i.i c.loop-i-test.true (omega (arith, c.holiday-next.ensures)) ∙ c.loop-i.invariant)
-
 pub returns : goal.returns
-returns c = last_above c.args.holidays.now c.loop-i.last c.loop-i.i c.loop-i-test.false ∙ c.loop-i.invariant
+unfolding holidays
+returns c =
+    let bytes = c.args.holidays.now in
+    let n : ℕ = length bytes / 4 in
+    all_from_yields_List (λ i. ltb (date_at bytes (i - 1)) (date_at bytes i)) _ _ c.all.result c.all.ensures.ran (YieldsList-from_range 1 n (n - 1) (cc) (cc)) (λ x b q k. search (rules, tests))
+    ∙ all_range (λ i. ltb (date_at bytes (i - 1)) (date_at bytes i)) 1 (n - 1)
+    ∙ ascends (date_at bytes) n

@@ -1,34 +1,25 @@
-use borrow.Author.Rules.{rules}
-use native.Mathlib.Omega.{arith}
-use Prim.Native.Nat.{◌≤◌, ◌-◌, ◌+◌}
-use mathlib.Core.Path.{◌≡◌, sym, ◌∙◌, ap}
-use Rattle.calendar.specs.Dates.{before_year}
-use Rattle.calendar.specs.Lengths.{year_more, years_all, no_years}
+-- `calendar::before_year` meets its contract.
+use Rattle.std.proofs.Common.{◌-◌, arith, rules, ◌∙◌}
+use Rattle.std.specs.List.{range_with_len}
+use Rattle.std.proofs.lemmas.Iterator.{YieldsList-from_range, YieldsList-from_map}
+use Rattle.std.proofs.lemmas.Iterator.Consumers.{YieldsList-at, sum_by_from_yields_List, fits_by_from_yields_list}
+use Rattle.laws.specs.Chains.{sum_range}
+use Rattle.calendar.specs.Dates.{year_length, before_year}
+use Rattle.calendar.specs.Lengths.{years_all}
 use Rattle.calendar.proofs.before_year.Goals as goal
-use Rattle.calendar.proofs.before_year.Lts as lts
-use Rattle.calendar.proofs.before_year.Tie as tie
-use Rattle.calendar.proofs.before_year.Reads as reads
 
-abbrev After-year_length-days : Type 0
-After-year_length-days = lts.After-year_length tie.the-claims reads.Pre reads.Post goal.the-invariant-loop-y goal.the-decreases-loop-y
-
-pub loop-y-init : goal.loop-y-init
-loop-y-init c = (search rules, search rules, sym no_years)
-
-more : (c : After-year_length-days) → c.loop-y.days + c.year_length-days.result ≡ before_year (c.loop-y.y + 1)
-more c = omega (arith, year_more c.loop-y.y c.loop-y.invariant.0, c.year_length-days.ensures)
-
-pub overflow_add-days : goal.overflow_add-days
-overflow_add-days c = omega (arith, more c, years_all (c.loop-y.y + 1) (omega arith))
-
-pub overflow_add-y : goal.overflow_add-y
-overflow_add-y c = omega arith
-
-pub loop-y-smaller : goal.loop-y-smaller
-loop-y-smaller c = omega arith
-
-pub loop-y-preserved : goal.loop-y-preserved
-loop-y-preserved c = (search rules, search rules, more c)
+pub sum-requires-clause-fits : goal.sum-requires-clause-fits
+unfolding before_year
+sum-requires-clause-fits c =
+    let n = c.args.year - 2000 in
+    fits_by_from_yields_list year_length (range_with_len 2000 n) c.map.result _
+    (YieldsList-from_map _ year_length (YieldsList-at c.map.ensures.source (YieldsList-from_range 2000 c.args.year n (cc) (cc))) c.map.ensures.closure (λ x r q k. search rules))
+    (omega (arith, sum_range year_length 2000 n, years_all c.args.year (omega arith)))
 
 pub returns : goal.returns
-returns c = c.loop-y.invariant.2 ∙ ap before_year (omega arith)
+unfolding before_year
+returns c =
+    let n = c.args.year - 2000 in
+    sum_by_from_yields_List year_length (range_with_len 2000 n) c.map.result c.sum.result c.sum.ensures.ran
+    (YieldsList-from_map _ year_length (YieldsList-at c.map.ensures.source (YieldsList-from_range 2000 c.args.year n (cc) (cc))) c.map.ensures.closure (λ x r q k. search rules))
+    ∙ sum_range year_length 2000 n

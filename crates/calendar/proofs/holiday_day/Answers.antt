@@ -1,4 +1,3 @@
-use borrow.Author.Rules.{rules}
 use mathlib.Core.Path.{sym, ◌∙◌, ap}
 use Rattle.calendar.specs.Dates.{valid, day_number}
 use Rattle.calendar.specs.Holidays.{each_valid, day_at, day_past}

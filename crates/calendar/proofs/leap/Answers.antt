@@ -1,16 +1,16 @@
-use borrow.Author.Rules.{rules}
-use borrow.Author.Tests.{eq-eqb, ne_eqb}
+-- `calendar::leap` meets its contract.
+use Rattle.std.proofs.Common.{rules}
 use Rattle.calendar.specs.Dates.{leap}
 use Rattle.calendar.proofs.leap.Goals as goal
 
 pub returns-then-year-ne0 : goal.returns-then-year-ne0
 unfolding leap
-returns-then-year-ne0 c = search (rules, eq-eqb, ne_eqb)
+returns-then-year-ne0 c = search rules
 
-pub returns-then-year-ne0-2 : goal.returns-then-year-ne0-2
+pub returns-else-year-ne0 : goal.returns-else-year-ne0
 unfolding leap
-returns-then-year-ne0-2 c = search (rules, eq-eqb, ne_eqb)
+returns-else-year-ne0 c = search rules
 
-pub returns : goal.returns
+pub returns-else-year-eq0 : goal.returns-else-year-eq0
 unfolding leap
-returns c = search (rules, eq-eqb, ne_eqb)
+returns-else-year-eq0 c = search rules

@@ -1,21 +1,12 @@
-use borrow.Author.Rules.{rules}
-use native.Mathlib.Omega.{arith}
-use mathlib.Core.Path.{sym, ◌∙◌}
-use Rattle.calendar.specs.Lengths.{other_month, long_february, short_february, february}
+-- `calendar::month_length` meets its contract.
+use Rattle.std.proofs.Common.{rules}
+use Rattle.calendar.specs.Dates.{month_length}
 use Rattle.calendar.proofs.month_length.Goals as goal
 
-pub returns-then-month-ne2 : goal.returns-then-month-ne2
-returns-then-month-ne2 c = other_month c.args.year c.args.month c.if-month-ne2.true
-
-pub overflow_add-result : goal.overflow_add-result
-overflow_add-result c = omega (arith, february c.args.year c.args.month c.if-month-ne2.false)
-
 pub returns-then-leap : goal.returns-then-leap
-returns-then-leap c =
-    long_february c.args.year c.args.month c.if-month-ne2.false
-    (sym c.leap.ensures ∙ c.if-leap.true)
+unfolding month_length
+returns-then-leap c = search rules
 
-pub returns : goal.returns
-returns c =
-    short_february c.args.year c.args.month c.if-month-ne2.false
-    (sym c.leap.ensures ∙ c.if-leap.false)
+pub returns-else-month-eq2 : goal.returns-else-month-eq2
+unfolding month_length
+returns-else-month-eq2 c = search rules

@@ -1,7 +1,5 @@
-use borrow.Author.Rules.{rules}
-use native.Mathlib.Omega.{arith}
-use Prim.Native.Nat.{◌≤◌, ◌+◌, ◌-◌}
-use mathlib.Core.Path.{◌≡◌, refl, ap, sym, ◌∙◌}
+use Prim.Native.Nat.{◌+◌}
+use mathlib.Core.Path.{◌≡◌, ap, sym, ◌∙◌}
 use mathlib.Core.Logic.{⊎_elim}
 use Rattle.calendar.specs.BusinessDays.{business, business_day, Ahead}
 use Rattle.calendar.specs.BusinessDays as days
@@ -15,51 +13,31 @@ use Rattle.calendar.proofs.nth_business_day.Reads as reads
 abbrev After-is_business : Type 0
 After-is_business = lts.After-is_business tie.the-claims reads.Pre reads.Post goal.the-invariant-loop-day goal.the-decreases-loop-day
 
-pub next_holiday-next-requires : goal.next_holiday-next-requires
-next_holiday-next-requires c = (c.requires.0, c.requires.1)
-
-pub loop-day-init : goal.loop-day-init
-loop-day-init c = (omega (arith, c.requires.1), c.next_holiday-next.ensures, refl)
-
 -- what the test of the day says
 known : (c : After-is_business) → c.is_business.result ≡ business (days.holidays c.args.holidays.now) c.loop-day.day
 known c =
     let l = c.loop-day in
-    c.is_business.ensures ∙ by_next c.args.holidays.now c.requires.0 l.day c.loop-day-test.true l.next l.invariant.1
+    c.is_business.ensures ∙ by_next c.args.holidays.now c.requires.0 l.day c.loop-day-test.true l.next l.invariant.0
 
 pub returns-then-left-eq0 : goal.returns-then-left-eq0
 unfolding business_day
 returns-then-left-eq0 c =
     let l = c.loop-day in
-    sought (days.holidays c.args.holidays.now) l.day l.left c.loop-day-test.true (sym (known c.before.before.before) ∙ c.if-is_business.true) c.if-left-eq0.true ∙ l.invariant.2
-
-pub overflow_sub-left-then-is_business : goal.overflow_sub-left-then-is_business
-overflow_sub-left-then-is_business c = omega arith
-
-pub next_holiday_after-next-requires : goal.next_holiday_after-next-requires
-next_holiday_after-next-requires c =
-    (c.requires.0, c.loop-day-test.true, c.loop-day.invariant.1)
-
-pub overflow_add-day : goal.overflow_add-day
-overflow_add-day c = omega arith
-
-pub loop-day-smaller : goal.loop-day-smaller
-loop-day-smaller c = omega arith
+    sought (days.holidays c.args.holidays.now) l.day l.left c.loop-day-test.true (sym (known c.before.before.before) ∙ c.if-is_business.true) c.if-left-eq0.true ∙ l.invariant.1
 
 pub loop-day-preserved : goal.loop-day-preserved
 loop-day-preserved c =
     let l = c.loop-day in
     let hs = days.holidays c.args.holidays.now in (
-      omega arith,
       c.next_holiday_after-next.ensures,
       ⊎_elim
           (λ w. ap (ahead hs (l.day + 1)) w.left-is ∙ later hs l.day l.left c.loop-day-test.true (sym (known c.before.before.before) ∙ w.if-is_business.true) w.if-left-eq0.false)
           (λ w. ap (ahead hs (l.day + 1)) w.left-is ∙ skipped hs l.day l.left c.loop-day-test.true (sym (known c.before.before.before) ∙ w.if-is_business.false))
-          c.if-is_business.branch-raw ∙ l.invariant.2,
+          c.if-is_business.branch-raw ∙ l.invariant.1,
     )
 
 pub returns : goal.returns
 unfolding business_day
 returns c =
     let l = c.loop-day in
-    none_ahead (days.holidays c.args.holidays.now) l.day l.left c.loop-day-test.false ∙ l.invariant.2
+    none_ahead (days.holidays c.args.holidays.now) l.day l.left c.loop-day-test.false ∙ l.invariant.1

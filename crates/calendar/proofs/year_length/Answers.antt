@@ -1,4 +1,3 @@
-use borrow.Author.Rules.{rules}
 use mathlib.Core.Path.{sym, ◌∙◌}
 use Rattle.calendar.specs.Lengths.{leap_year, common_year}
 use Rattle.calendar.proofs.year_length.Goals as goal

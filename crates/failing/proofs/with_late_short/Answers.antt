@@ -1,13 +1,8 @@
 -- `failing::with_late_short` meets its contract: the count and the word that it stores are those of one late open short more.
 use Prim.Native.Nat.{ℕ}
-use borrow.Author.Rules.{rules}
-use native.Mathlib.Omega.{arith}
 use Rattle.plain.proofs.Numbered.{nth_at}
 use Rattle.failing.proofs.Counting.{counted_more}
 use Rattle.failing.proofs.with_late_short.Goals as goal
-
-pub overflow_add-counts : goal.overflow_add-counts
-overflow_add-counts c = let place = c.count_place-place.ensures in rw place (omega (arith, c.requires.1))
 
 pub returns : goal.returns
 returns c =

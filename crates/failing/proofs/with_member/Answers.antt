@@ -1,7 +1,6 @@
 -- `failing::with_member` meets its contract: the bits of a word with a power of two.
 use native.Mathlib.Omega.{arith}
 use Rattle.failing.proofs.Bits.{with_power}
-use borrow.Author.Rules.{rules}
 use Rattle.failing.proofs.with_member.Goals as goal
 
 pub returns : goal.returns

@@ -1,7 +1,6 @@
 -- `failing::without_member` meets its contract: the bits of a word and a power of two, where they differ.
 use native.Mathlib.Omega.{arith}
 use Rattle.failing.proofs.Turning.{with_power_turned}
-use borrow.Author.Rules.{rules}
 use Rattle.failing.proofs.without_member.Goals as goal
 
 pub returns : goal.returns

@@ -4,7 +4,6 @@ use Prim.Native.Nat.{ℕ, ◌+◌, ◌-◌, ◌*◌}
 use native.Mathlib.Omega.{arith}
 use mathlib.Core.Path.{◌≡◌, ap, ap₂, ◌∙◌}
 use lib.ListN.{get_or, take, drop}
-use borrow.Author.Rules.{rules}
 use Rattle.events.specs.declared.Event.{Event}
 use Rattle.events.specs.declared.Fields.{Fields}
 use Rattle.events.specs.Layout.{BODY}
@@ -27,17 +26,8 @@ After-event_count-count = lts.After-event_count tie.the-claims reads.Pre reads.P
 abbrev After-byte_at-kind : Type 0
 After-byte_at-kind = lts.After-byte_at tie.the-claims reads.Pre reads.Post
 
-pub event_count-count-requires : goal.event_count-count-requires
-event_count-count-requires c = tt
-
 pub returns-then-count-i : goal.returns-then-count-i
 returns-then-count-i c = event_past c.args.file.now _ _ c.event_count-count.ensures c.if-count-i.true
-
-pub byte_at-kind-requires : goal.byte_at-kind-requires
-byte_at-kind-requires c = tt
-
-pub event_from-requires : goal.event_from-requires
-event_from-requires c = tt
 
 -- once the kind byte is read, the event is of that kind, with the fields that stand at the place of its body
 abbrev counted : After-byte_at-kind → After-event_count-count
@@ -54,9 +44,6 @@ of_fields k f e =
 
 pub returns-then-file-at : goal.returns-then-file-at
 returns-then-file-at c = c.event_from.ensures ∙ of_fields c.before.before.before.before _ c.fields_at.ensures
-
-pub event_from-requires-2 : goal.event_from-requires-2
-event_from-requires-2 c = tt
 
 pub returns : goal.returns
 returns c =

@@ -1,11 +1,7 @@
 -- `files::file_refusal` meets its contract. Count, width and length are tested in turn, then the events.
 use mathlib.Core.Path.{sym, ◌∙◌}
 use Rattle.files.proofs.Checking.{too_many, other_width, other_length, right_header}
-use borrow.Author.Rules.{rules}
 use Rattle.files.proofs.file_refusal.Goals as goal
-
-pub event_count-count-requires : goal.event_count-count-requires
-event_count-count-requires c = tt
 
 pub returns-then-count-gt-EVENTS : goal.returns-then-count-gt-EVENTS
 returns-then-count-gt-EVENTS c = too_many c.args.file.now _ c.event_count-count.ensures c.if-count-gt-EVENTS.true

@@ -1,26 +1,20 @@
-use borrow.Author.Rules.{rules}
 use native.Mathlib.Omega.{arith}
 use Prim.Native.Nat.{◌+◌, ◌-◌, ◌≤◌}
 use mathlib.Core.Path.{◌≡◌, sym, ◌∙◌}
-use mathlib.Core.Logic.{⊎_elim}
-use mathlib.Core.List.{List, ◌∷◌}
+use mathlib.Core.List.{◌∷◌}
 use lib.ListN.{length, get_or}
-use Rattle.register.specs.declared.Register.{Register}
-use Rattle.plain.specs.declared.Award.{Award}
 use Rattle.plain.specs.Book.{no_award, new, no_price, nth}
-use Rattle.plain.specs.Charging.{Charge, award_fines}
 use Rattle.tables.specs.Tables as tables
 use Rattle.tables.specs.Tables.{Positions, positions, awards}
-use Rattle.tables.specs.declared.Prices.{Prices}
 use Rattle.rows.specs.Rows.{awards_of}
 use Rattle.tables.specs.Lent.{position_table}
-use Rattle.ledger.specs.Posts.{ledger_of}
-use Rattle.ledger.specs.Parts.{book_of, award_fines_of}
+use Rattle.ledger.specs.Parts.{award_fines_of}
 use Rattle.ledger.specs.Tabled.{Accounted, Awarded}
-use Rattle.ledger.proofs.Posting.{Posting, PostingAt, ahead, credit_fits, debit_fits, posting_start, posting_one, place_none, place_some, place_end}
+use Rattle.ledger.proofs.Posting.{Posting, ahead, next_chargeable, posting_start, posting_one, place_none, place_some, place_end}
 use Rattle.ledger.proofs.Elements.{element, position_numbered, position_at}
 use Rattle.ledger.proofs.Fines.{class_read, latest_read, award_free, award_fined}
 use Rattle.ledger.proofs.post_award_fines.Goals as goal
+use Rattle.ledger.proofs.post_award_fines.Goals.{then-award_is_fined, else-award_is_fined}
 use Rattle.ledger.proofs.post_award_fines.Invariants.{fines_of}
 use Rattle.ledger.proofs.post_award_fines.Lts as lts
 use Rattle.ledger.proofs.post_award_fines.Tie as tie
@@ -62,21 +56,18 @@ latest_of p = latest_read p.args.prices _ p.requires.prices_many (accounted p).s
 -- the award is fined: its charge is the next to be posted
 posting : (x : After-award_fine-fine)
     → let f = fines_of (table x.before.before.before.before.before.before.before.before.before.before.before.before) x.args.prices x.args.register in
-    Posting (ledger_of x.args.credits.now x.args.debits.now) (ahead f x.args.awarded (awards_of x.args.awards.now) 0)
+    Posting x.args.ledger.now (ahead f x.args.awarded (awards_of x.args.awards.now) 0)
     (record { payer = x.award_at-award.result.offerer; payee = 0; cents = x.award_fine-fine.result } ∷ ahead f x.args.awarded (awards_of x.args.awards.now) (x.loop-i.i + 1))
-    (ledger_of x.loop-i.credits x.loop-i.debits)
+    x.loop-i.ledger
 unfolding new
 posting x =
     place_some _ _ _ (long x.before.before.before.before.before.before.before.before.before.before.before.before) _ _ _ no_award _ x.loop-i-test.true
     (rw (← x.award_at-award.ensures) (award_fined _ x.award_at-award.result x.row_at-short.result _ _ (position_at (table x.before.before.before.before.before.before.before.before.before.before.before.before) _ (awarded_at x.before.before.before.before.before.before.before.before.before).position ∙ sym x.row_at-short.ensures) (latest_of x.before.before.before.before.before.before.before) x.award_is_fined.ensures _ _ _ x.if-award_is_fined.true (class_of x.before.before.before.before.before.before.before) x.value_of.ensures x.award_fine-fine.ensures))
-    x.loop-i.invariant.0
+    x.loop-i.invariant
 
 pub loop-i-init : goal.loop-i-init
 unfolding award_fines_of awards
-loop-i-init c = (posting_start _ _ c.requires.room, omega arith)
-
-pub award_at-award-requires : goal.award_at-award-requires
-award_at-award-requires c = omega (arith, c.requires.awards_fit_lem.held)
+loop-i-init c = posting_start _ _ c.requires.room
 
 pub overflow_sub-place : goal.overflow_sub-place
 overflow_sub-place c = omega (arith, (awarded_at c.before).position.above)
@@ -88,43 +79,24 @@ row_at-short-requires c =
 pub overflow_sub-k : goal.overflow_sub-k
 overflow_sub-k c = omega (arith, (accounted c.before).security.above)
 
-pub offset_bounds-prices-k : goal.offset_bounds-prices-k
-offset_bounds-prices-k c = omega (arith, (accounted c.before).security.below)
-
 pub bounds-prices-k : goal.bounds-prices-k
 bounds-prices-k c = omega (arith, (accounted c.before).security.below)
 
-pub bounds-register-k : goal.bounds-register-k
-bounds-register-k c = omega (arith, (accounted c.before.before.before.before).security.below)
-
-pub raise_place-requires : goal.raise_place-requires
-raise_place-requires c = (omega arith, credit_fits _ _ _ (posting c.before).room 0)
-
-pub raise_place-requires-then-award_is_fined : goal.raise_place-requires-then-award_is_fined
-raise_place-requires-then-award_is_fined c =
-    ((awarded_at c.before.before.before.before.before.before.before.before.before.before.before.before).offerer, debit_fits _ _ _ (posting c.before.before.before).room _)
-
-pub overflow_add-i : goal.overflow_add-i
-overflow_add-i c = omega (arith, c.requires.awards_fit_lem.held)
-
-pub loop-i-smaller : goal.loop-i-smaller
-loop-i-smaller c = omega arith
+pub post-requires : goal.post-requires
+post-requires c =
+    next_chargeable _ _ _ _ _ (posting c.before) (record { payer = (awarded_at c.before.before.before.before.before.before.before.before.before.before).offerer; payee = omega arith })
 
 pub loop-i-preserved : goal.loop-i-preserved
 unfolding new
 loop-i-preserved c =
-    ⊎_elim
-    (λ w. (
-      rw (w.credits-is, w.debits-is, w.raise_place.ensures, w.raise_place-then-award_is_fined.ensures)
-          (posting_one _ _ _ _ _ (posting (record { before = record { before = record { before = record { before = c.before; if-award_is_fined = w.if-award_is_fined }; class-1 = w.class-1 }; value_of = w.value_of }; award_fine-fine = w.award_fine-fine }))),
-      omega arith,
-    ))
-    (λ w. (
-      rw (w.credits-is, w.debits-is) (place_none _ _ _ (long c.before.before.before.before.before.before.before.before.before) _ _ _ no_award c.loop-i-test.true (rw (← c.award_at-award.ensures) (award_free _ c.award_at-award.result c.row_at-short.result _ _ (position_at (table c.before.before.before.before.before.before.before.before.before) _ (awarded_at c.before.before.before.before.before.before).position ∙ sym c.row_at-short.ensures) (latest_of c.before.before.before.before) c.award_is_fined.ensures w.if-award_is_fined.false)) c.loop-i.invariant.0),
-      omega arith,
-    ))
-    c.if-award_is_fined.branch-raw
+    elim c.if-award_is_fined.branch [
+      | then-award_is_fined w ↦
+          rw (w.ledger-is, w.post.ensures)
+          (posting_one _ _ _ _ _ (posting (record { before = record { before = record { before = record { before = c.before; if-award_is_fined = w.if-award_is_fined }; class-1 = w.class-1 }; value_of = w.value_of }; award_fine-fine = w.award_fine-fine })))
+      | else-award_is_fined w ↦
+          rw (w.ledger-is) (place_none _ _ _ (long c.before.before.before.before.before.before.before.before.before) _ _ _ no_award c.loop-i-test.true (rw (← c.award_at-award.ensures) (award_free _ c.award_at-award.result c.row_at-short.result _ _ (position_at (table c.before.before.before.before.before.before.before.before.before) _ (awarded_at c.before.before.before.before.before.before).position ∙ sym c.row_at-short.ensures) (latest_of c.before.before.before.before) c.award_is_fined.ensures w.if-award_is_fined.false)) c.loop-i.invariant)
+    ]
 
 pub returns : goal.returns
 unfolding award_fines_of awards
-returns c = place_end _ _ _ (long c.before.before) _ _ _ c.loop-i-test.false c.loop-i.invariant.0
+returns c = place_end _ _ _ (long c.before.before) _ _ _ c.loop-i-test.false c.loop-i.invariant

@@ -1,4 +1,3 @@
-use borrow.Author.Rules.{rules}
 use mathlib.Core.Path.{◌≡◌}
 use Rattle.plain.specs.Charging.{charge}
 use Rattle.rules.specs.Charges.{buy_in_charge}
@@ -25,13 +24,13 @@ credit : (c : In-Credit)
 credit c = charge_credit _ _ _ _ c.buy_in_charge-amount.ensures c.in-Credit.is
 
 pub post-requires : goal.post-requires
-post-requires c = rw (debit c.before.before) at c.requires
+post-requires c = rw (debit c.before) at c.requires
 
 pub post-requires-in-Credit : goal.post-requires-in-Credit
-post-requires-in-Credit c = rw (credit c.before.before) at c.requires
+post-requires-in-Credit c = rw (credit c.before) at c.requires
 
 pub returns-in-Debit : goal.returns-in-Debit
-returns-in-Debit c = rw (debit c.before.before.before) c.post.ensures
+returns-in-Debit c = rw (debit c.before.before) c.post.ensures
 
 pub returns-in-Credit : goal.returns-in-Credit
-returns-in-Credit c = rw (credit c.before.before.before) c.post-in-Credit.ensures
+returns-in-Credit c = rw (credit c.before.before) c.post-in-Credit.ensures

@@ -1,5 +1,4 @@
 -- `ledger::post_cash` meets its contract.
-use borrow.Author.Rules.{rules}
 use native.Mathlib.Omega.{arith}
 use Prim.Native.Nat.{◌*◌}
 use mathlib.Core.Path.{◌≡◌, sym, ◌∙◌}
@@ -29,23 +28,20 @@ price_is x =
 fee_is : (x : After-cash_fee-fee) → let a = x.args in x.cash_fee-fee.result ≡ cash_fee (a.short.unsettled * a.latest)
 fee_is x = rw (← x.value_of.ensures) x.cash_fee-fee.ensures
 
-pub highest_reference-long-requires : goal.highest_reference-long-requires
-highest_reference-long-requires c = c.requires.0.priceable
-
 pub post_payments-requires : goal.post_payments-requires
 post_payments-requires c =
     let h = c.requires in
-    (record { room = rw (price_is c.before.before.before) (room_first _ _ _ h.0.room); priceable = h.0.priceable; accounted = h.0.accounted; owed = h.0.owed; account = h.0.account }, h.1)
+    (record { room = rw (price_is c.before.before) (room_first _ _ _ h.0.room); priceable = h.0.priceable; accounted = h.0.accounted; owed = h.0.owed; account = h.0.account }, h.1)
 
 pub post-requires : goal.post-requires
 post-requires c =
     let h = c.requires.0 in
     record {
       booked = record { payer = h.account; payee = omega arith };
-      room = rw (c.post_payments.ensures.1, price_is c.before.before.before.before.before.before.before.before, fee_is c.before.before) (room_then _ _ _ h.room);
+      room = rw (c.post_payments.ensures.1, price_is c.before.before.before.before.before.before, fee_is c.before) (room_then _ _ _ h.room);
     }
 
 pub returns : goal.returns
 returns c =
     let g = c.post_payments.ensures in
-    (rw (price_is c.before.before.before.before.before.before.before.before.before) at g.0, (rw (g.1, price_is c.before.before.before.before.before.before.before.before.before, fee_is c.before.before.before) at c.post.ensures) ∙ posted_append _ _ _)
+    (rw (price_is c.before.before.before.before.before.before.before) at g.0, (rw (g.1, price_is c.before.before.before.before.before.before.before, fee_is c.before.before) at c.post.ensures) ∙ posted_append _ _ _)

@@ -1,29 +1,23 @@
-use borrow.Author.Rules.{rules}
 use native.Mathlib.Omega.{arith}
 use Prim.Native.Nat.{ℕ, ◌+◌, ◌-◌, ◌≤◌, ◌<◌}
 use mathlib.Core.Path.{◌≡◌, ap}
-use mathlib.Core.Logic.{⊎_elim}
-use mathlib.Core.List.{List, ◌∷◌}
+use mathlib.Core.List.{◌∷◌}
 use lib.ListN.{length, get_or}
 use lib.Seq.{get_or-take, length-take-le}
 use Rattle.laws.specs.declared.BusinessDay.{BusinessDay}
-use Rattle.register.specs.declared.Register.{Register}
 use Rattle.plain.specs.declared.Position.{Position}
 use Rattle.plain.specs.Book.{no_position, new, no_price, nth}
-use Rattle.plain.specs.Charging.{Charge, late_fines}
 use Rattle.tables.specs.Tables as tables
 use Rattle.tables.specs.Tables.{Positions, positions}
-use Rattle.tables.specs.declared.Prices.{Prices}
 use Rattle.rows.specs.Rows.{rows_of}
-use Rattle.tables.specs.Late.{LateBefore}
 use Rattle.tables.specs.Lent.{position_table}
-use Rattle.ledger.specs.Posts.{ledger_of}
 use Rattle.ledger.specs.Parts.{book_of, late_fines_of}
-use Rattle.ledger.specs.Tabled.{Accounted, LateFinable}
-use Rattle.ledger.proofs.Posting.{Posting, PostingAt, ahead, credit_fits, debit_fits, posting_start, posting_one, place_none, place_some, place_rest}
+use Rattle.ledger.specs.Tabled.{Accounted}
+use Rattle.ledger.proofs.Posting.{Posting, ahead, next_chargeable, posting_start, posting_one, place_none, place_some, place_rest}
 use Rattle.ledger.proofs.Elements.{positions_long, position_has}
 use Rattle.ledger.proofs.Fines.{class_read, latest_read, rest_not_due, late_free, late_fined}
 use Rattle.ledger.proofs.post_late_fines.Goals as goal
+use Rattle.ledger.proofs.post_late_fines.Goals.{then-short_is_fined, else-short_is_fined}
 use Rattle.ledger.proofs.post_late_fines.Invariants.{fines_of, Finable}
 use Rattle.ledger.proofs.post_late_fines.Lts as lts
 use Rattle.ledger.proofs.post_late_fines.Tie as tie
@@ -46,7 +40,7 @@ place r = r.loop-i.i
 
 -- the same of what the function was given
 abbrev FinableAt : Start → ℕ → BusinessDay → Type 0
-FinableAt s = let a = s.args in Finable a.credits.now a.debits.now a.rows.now a.until a.prices a.register
+FinableAt s = let a = s.args in Finable a.ledger.now a.rows.now a.until a.prices a.register
 
 asked : (s : Start) → FinableAt s s.requires.0 s.requires.1
 asked s = (s.requires.2, s.requires.3)
@@ -87,18 +81,18 @@ posting : (x : After-late_fine-fine)
     → let a = (start x.before.before.before.before.before.before.before).args in
     (held : ℕ) (day : BusinessDay) → FinableAt (start x.before.before.before.before.before.before.before) held day
     → let f = fines_of day (position_table a.rows.now held) a.prices a.register in
-    Posting (ledger_of a.credits.now a.debits.now) (ahead f held (rows_of a.rows.now) 0)
+    Posting a.ledger.now (ahead f held (rows_of a.rows.now) 0)
     (record { payer = x.row_at-short.result.member; payee = 0; cents = x.late_fine-fine.result } ∷ ahead f held (rows_of a.rows.now) (place x.before.before.before.before.before.before.before + 1))
-    (ledger_of x.loop-i.credits x.loop-i.debits)
+    x.loop-i.ledger
 unfolding new
 posting x held day h =
     place_some _ _ _ (fits (start x.before.before.before.before.before.before.before) held day h) _ _ _ no_position _ (held_there (start x.before.before.before.before.before.before.before) held day h _ (below x.before.before.before.before.before.before.before))
     (rw (← x.row_at-short.ensures) (late_fined _ x.row_at-short.result _ _ _ (is_due x.before.before.before.before.before.before.before held day h) (class_of x.before.before.before.before.before.before.before) (latest_of x.before.before.before.before.before.before.before) x.short_is_fined.ensures _ _ x.if-short_is_fined.true x.value_of.ensures x.late_fine-fine.ensures))
-    (x.loop-i.invariant.0 held day h)
+    (x.loop-i.invariant held day h)
 
 pub loop-i-init : goal.loop-i-init
 unfolding late_fines_of positions
-loop-i-init c = (λ held day h. posting_start _ _ h.0.room, omega arith)
+loop-i-init c = λ held day h. posting_start _ _ h.0.room
 
 pub row_at-short-requires : goal.row_at-short-requires
 row_at-short-requires c =
@@ -110,49 +104,28 @@ overflow_sub-k c = omega (arith, (accounted c.before).security.above)
 pub bounds-register-k : goal.bounds-register-k
 bounds-register-k c = omega (arith, (accounted c.before).security.below)
 
-pub offset_bounds-prices-k : goal.offset_bounds-prices-k
-offset_bounds-prices-k c = omega (arith, (accounted c.before.before).security.below)
-
 pub bounds-prices-k : goal.bounds-prices-k
 bounds-prices-k c = omega (arith, (accounted c.before.before).security.below)
 
-pub raise_place-requires : goal.raise_place-requires
-raise_place-requires c =
-    let s = start c.before.before.before.before.before.before.before.before in
-    (omega arith, credit_fits _ _ _ (posting c.before _ _ (asked s)).room 0)
-
-pub raise_place-requires-then-short_is_fined : goal.raise_place-requires-then-short_is_fined
-raise_place-requires-then-short_is_fined c =
-    ((accounted c.before.before.before.before.before.before.before.before.before.before).member, debit_fits _ _ _ (posting c.before.before.before _ _ (asked (start c.before.before.before.before.before.before.before.before.before.before))).room _)
-
-pub overflow_add-i : goal.overflow_add-i
-overflow_add-i c =
-    let s = start c.before.before.before.before.before in
-    omega (arith, held_there s _ _ (asked s) _ (below c.before.before.before.before.before), s.requires.2.positions_fit.held)
-
-pub loop-i-smaller : goal.loop-i-smaller
-loop-i-smaller c = omega (arith, below c.before.before.before.before.before)
+pub post-requires : goal.post-requires
+post-requires c =
+    next_chargeable _ _ _ _ _ (posting c.before _ _ (asked (start c.before.before.before.before.before.before.before.before))) (record { payer = (accounted c.before.before.before.before.before.before.before.before).member; payee = omega arith })
 
 pub loop-i-preserved : goal.loop-i-preserved
 unfolding new
 loop-i-preserved c =
-    let less : place c.before.before.before.before.before + 1 ≤ (start c.before.before.before.before.before).args.until = omega (arith, below c.before.before.before.before.before) in
-    ⊎_elim
-    (λ w. (
-      λ held day h.
-          rw (w.credits-is, w.debits-is, w.raise_place.ensures, w.raise_place-then-short_is_fined.ensures)
-          (posting_one _ _ _ _ _ (posting (record { before = record { before = record { before = c.before; if-short_is_fined = w.if-short_is_fined }; value_of = w.value_of }; late_fine-fine = w.late_fine-fine }) held day h)),
-      less,
-    ))
-    (λ w. (
-      λ held day h.
-          rw (w.credits-is, w.debits-is)
+    elim c.if-short_is_fined.branch [
+      | then-short_is_fined w ↦
+          λ held day h.
+          rw (w.ledger-is, w.post.ensures)
+          (posting_one _ _ _ _ _ (posting (record { before = record { before = record { before = c.before; if-short_is_fined = w.if-short_is_fined }; value_of = w.value_of }; late_fine-fine = w.late_fine-fine }) held day h))
+      | else-short_is_fined w ↦
+          λ held day h.
+          rw (w.ledger-is)
           (place_none _ _ _ (fits (start c.before.before.before.before.before) held day h) _ _ _ no_position (held_there (start c.before.before.before.before.before) held day h _ (below c.before.before.before.before.before))
           (rw (← c.row_at-short.ensures) (late_free _ c.row_at-short.result _ _ _ (is_due c.before.before.before.before.before held day h) (class_of c.before.before.before.before.before) (latest_of c.before.before.before.before.before) c.short_is_fined.ensures w.if-short_is_fined.false))
-          (c.loop-i.invariant.0 held day h)),
-      less,
-    ))
-    c.if-short_is_fined.branch-raw
+          (c.loop-i.invariant held day h))
+    ]
 
 -- the positions from the place on are not due
 pub returns : goal.returns
@@ -160,7 +133,7 @@ unfolding late_fines_of positions new
 returns c = λ held day fin late.
     let k = c.loop-i in
     let table = position_table c.args.rows.now held in
-    let same : k.i ≡ c.args.until = omega (arith, k.invariant.1, c.loop-i-test.false) in
+    let same : k.i ≡ c.args.until = omega (arith, c.loop-i-test.false) in
     place_rest _ _ _ (fits c.before.before held day (fin, late)) _ _ k.i
     (rw same (rest_not_due (book_of c.args.register day.0 (tables.prices c.args.prices) (positions table)) (positions table) c.args.until late))
-    (k.invariant.0 held day (fin, late))
+    (k.invariant held day (fin, late))

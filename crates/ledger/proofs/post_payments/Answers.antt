@@ -1,24 +1,21 @@
-use borrow.Author.Rules.{rules}
 use native.Mathlib.Omega.{arith}
 use Prim.Native.Nat.{◌+◌, ◌-◌, ◌*◌, ◌≤◌}
 use mathlib.Core.Path.{◌≡◌, refl, ap, ◌∙◌}
 use mathlib.Core.List.{List, ◌∷◌}
 use lib.ListN.{length, get_or}
-use Rattle.laws.specs.Limits.{SHEET_CELLS}
 use Rattle.plain.specs.declared.Piece.{Piece}
 use Rattle.plain.specs.Book.{no_position}
 use Rattle.tables.specs.Tables.{pieces}
 use Rattle.rows.specs.Rows.{rows_of}
 use Rattle.pieces.specs.Sheet.{pieces_of, no_piece, sheet_with}
-use Rattle.pieces.proofs.Filled.{StaysFilled, stays_cents}
+use Rattle.pieces.proofs.Filled.{stays_cents}
 use Rattle.tables.specs.Lent.{position_table}
-use Rattle.plain.specs.Charging.{Charge, priced_at}
+use Rattle.plain.specs.Charging.{Charge}
 use Rattle.ledger.specs.Tabled.{Accounted, Paired}
-use Rattle.ledger.proofs.Posting.{Posting, PostingAt, ahead, credit_fits, debit_fits, posting_start, posting_one, place_some, place_end}
+use Rattle.ledger.proofs.Posting.{Posting, ahead, credit_fits, next_chargeable, posting_start, posting_one, place_some, place_end}
 use Rattle.ledger.proofs.Elements.{element, position_numbered}
-use Rattle.ledger.specs.Posts.{ledger_of}
 use Rattle.ledger.specs.Settling.{payment_at, payments_at, OwedBy}
-use Rattle.ledger.proofs.Settling.{Changing, changing_start, changing_at, changing_one, changing_end, priced_here, payment_here}
+use Rattle.ledger.proofs.Settling.{changing_start, changing_at, changing_one, changing_end, priced_here, payment_here}
 use Rattle.ledger.proofs.post_payments.Goals as goal
 use Rattle.ledger.proofs.post_payments.Lts as lts
 use Rattle.ledger.proofs.post_payments.Tie as tie
@@ -75,9 +72,9 @@ posting : (r : After-row_at-long)
     → let y = turn r in
     let a = (start y).args in
     let f = payment_at a.price (position_table a.rows.now a.held) in
-    Posting (ledger_of a.credits.now a.debits.now) (ahead f a.dealt (pieces_of a.sheet.now) 0)
+    Posting a.ledger.now (ahead f a.dealt (pieces_of a.sheet.now) 0)
     (record { payer = a.payer; payee = r.row_at-long.result.member; cents = r.units_at-units.result * a.price } ∷ ahead f a.dealt (pieces_of a.sheet.now) (y.loop-i.i + 1))
-    (ledger_of y.loop-i.credits y.loop-i.debits)
+    y.loop-i.ledger
 posting r =
     let y = turn r in
     place_some (charged_of (start y)) _ _ (long (start y)) _ _ _ no_piece _ y.loop-i-test.true
@@ -86,15 +83,7 @@ posting r =
 
 pub loop-i-init : goal.loop-i-init
 unfolding payments_at pieces
-loop-i-init c = (changing_start _ _ _, posting_start _ _ c.requires.0.room, omega arith, c.requires.1, (λ s f. f))
-
-pub long_at-number-requires : goal.long_at-number-requires
-long_at-number-requires c =
-    omega (arith, c.loop-i-test.true, (start c).requires.0.priceable.pieces_fit.held)
-
-pub units_at-units-requires : goal.units_at-units-requires
-units_at-units-requires c =
-    omega (arith, c.loop-i-test.true, (start c.before).requires.0.priceable.pieces_fit.held)
+loop-i-init c = (changing_start _ _ _, posting_start _ _ c.requires.0.room, c.requires.1, (λ s f. f))
 
 pub overflow_sub-place : goal.overflow_sub-place
 overflow_sub-place c =
@@ -107,36 +96,18 @@ row_at-long-requires c =
 pub overflow_mul-cents : goal.overflow_mul-cents
 overflow_mul-cents c = record { fits = omega (arith, credit_fits _ _ _ (posting c).room 0) }
 
-pub put_cents-requires : goal.put_cents-requires
-put_cents-requires c =
-    let y = turn c.before in
-    (y.loop-i.invariant.3, omega (arith, y.loop-i-test.true, (start y).requires.0.priceable.pieces_fit.held))
-
-pub raise_place-requires : goal.raise_place-requires
-raise_place-requires c =
-    ((accounted c.before.before.before).member, credit_fits _ _ _ (posting c.before.before.before).room _)
-
-pub raise_place-requires-in-loop-i : goal.raise_place-requires-in-loop-i
-raise_place-requires-in-loop-i c =
-    ((start (turn c.before.before.before.before.before)).requires.0.account, debit_fits _ _ _ (posting c.before.before.before.before.before).room _)
-
-pub overflow_add-i : goal.overflow_add-i
-overflow_add-i c =
-    let y = turn c.before.before.before.before.before.before in
-    omega (arith, y.loop-i-test.true, (start y).requires.0.priceable.pieces_fit.held)
-
-pub loop-i-smaller : goal.loop-i-smaller
-loop-i-smaller c = omega (arith, (turn c.before.before.before.before.before.before).loop-i-test.true)
+pub post-requires : goal.post-requires
+post-requires c =
+    next_chargeable _ _ _ _ _ (posting c.before.before.before) (record { payer = (start (turn c.before.before.before)).requires.0.account; payee = (accounted c.before.before.before).member })
 
 pub loop-i-preserved : goal.loop-i-preserved
 loop-i-preserved c =
-    let y = turn c.before.before.before.before.before.before in (
+    let y = turn c.before.before.before.before in (
       rw c.put_cents.ensures.pieces
-          (changing_one _ _ _ (long (start y)) _ _ no_piece y.loop-i-test.true y.loop-i.invariant.0 _ (priced_here _ _ _ (piece_at y) _ _ (paired y) (owed y) (long_is c.before.before.before.before.before.before) c.units_at-units.ensures)),
-      rw (c.raise_place.ensures, c.raise_place-in-loop-i.ensures) (posting_one _ _ _ _ _ (posting c.before.before.before.before.before.before)),
-      omega (arith, y.loop-i-test.true),
+          (changing_one _ _ _ (long (start y)) _ _ no_piece y.loop-i-test.true y.loop-i.invariant.0 _ (priced_here _ _ _ (piece_at y) _ _ (paired y) (owed y) (long_is c.before.before.before.before) c.units_at-units.ensures)),
+      rw (c.post.ensures) (posting_one _ _ _ _ _ (posting c.before.before.before.before)),
       c.put_cents.ensures.size,
-      stays_cents (start y).args.dealt _ (start y).args.dealt _ y.loop-i.invariant.4 _ _ _ y.loop-i-test.true (start y).requires.0.priceable.pieces_fit.held c.put_cents.ensures,
+      stays_cents (start y).args.dealt _ (start y).args.dealt _ y.loop-i.invariant.3 _ _ _ y.loop-i-test.true (start y).requires.0.priceable.pieces_fit.held c.put_cents.ensures,
     )
 
 pub returns : goal.returns
@@ -144,11 +115,11 @@ unfolding payments_at pieces
 returns c =
     let i = c.loop-i.invariant in
     let f = c.requires.0.priceable.pieces_fit in
-    let priced = changing_end _ _ _ (long c.before.before) _ _ c.loop-i-test.false i.2 i.0 in (
+    let priced = changing_end _ _ _ (long c.before.before) _ _ c.loop-i-test.false (omega arith) i.0 in (
       record {
         priced = record { many = refl; priced = priced; fit = record { places = i.0.size ∙ f.places; held = f.held } };
-        filled = λ t h. i.4 t h ∙ ap (λ (xs : List Piece). sheet_with xs t) priced;
-        sheet_length = i.3;
+        filled = λ t h. i.3 t h ∙ ap (λ (xs : List Piece). sheet_with xs t) priced;
+        sheet_length = i.2;
       },
       place_end (charged_of c.before.before) _ _ (long c.before.before) _ _ _ c.loop-i-test.false i.1,
     )

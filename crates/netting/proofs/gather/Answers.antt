@@ -1,9 +1,7 @@
-use native.Mathlib.Omega.{arith}
-use Prim.Native.Nat.{◌-◌}
 use Rattle.tables.specs.Tables.{Trades}
 use Rattle.netting.specs.declared.Side.TheVariants.{Sale, Purchase}
 use Rattle.tables.specs.Lent.{trade_table}
-use Rattle.netting.proofs.Totalling.{Totalling, totalling_start, raisable, purchases_kept, totalling_more, gathered}
+use Rattle.netting.proofs.Totalling.{totalling_start, raisable, purchases_kept, totalling_more, gathered}
 use Rattle.netting.proofs.gather.Goals as goal
 use Rattle.netting.proofs.gather.Lts as lts
 use Rattle.netting.proofs.gather.Tie as tie
@@ -18,29 +16,20 @@ table s = trade_table s.args.trades.now s.args.count s.args.netted
 pub loop-i-init : goal.loop-i-init
 loop-i-init c = totalling_start _ (table c) c.requires.0 _ c.requires.1
 
-pub trade_at-trade-requires : goal.trade_at-trade-requires
-trade_at-trade-requires c = omega (arith, c.loop-i-test.true, c.requires.0.fit.held)
-
 pub raise-requires : goal.raise-requires
 raise-requires c =
     let i = c.loop-i.invariant in
-    raisable _ (table c.before.before.before.before) c.requires.0 _ _ i c.loop-i-test.true _ c.trade_at-trade.ensures Sale _ i.long (i.totals Sale)
+    raisable _ (table c.before.before.before.before) c.requires.0 _ _ i c.loop-i-test.true _ c.trade_at-trade.ensures Sale _ (i.totals Sale)
 
 pub raise-requires-in-loop-i : goal.raise-requires-in-loop-i
 raise-requires-in-loop-i c =
     let i = c.loop-i.invariant in
-    raisable _ (table c.before.before.before.before.before.before) c.requires.0 _ _ i c.loop-i-test.true _ c.trade_at-trade.ensures Purchase _ c.raise.ensures.1
-    (purchases_kept _ (table c.before.before.before.before.before.before) c.requires.0 _ _ i c.loop-i-test.true _ c.trade_at-trade.ensures _ c.raise.ensures.0)
-
-pub overflow_add-i : goal.overflow_add-i
-overflow_add-i c = omega arith
-
-pub loop-i-smaller : goal.loop-i-smaller
-loop-i-smaller c = omega arith
+    raisable _ (table c.before.before.before.before.before.before) c.requires.0 _ _ i c.loop-i-test.true _ c.trade_at-trade.ensures Purchase _
+    (purchases_kept _ (table c.before.before.before.before.before.before) c.requires.0 _ _ i c.loop-i-test.true _ c.trade_at-trade.ensures _ c.raise.ensures)
 
 pub loop-i-preserved : goal.loop-i-preserved
 loop-i-preserved c =
-    totalling_more _ (table c.before.before.before.before.before.before.before) c.requires.0 _ _ c.loop-i.invariant c.loop-i-test.true _ c.trade_at-trade.ensures _ c.raise.ensures.0 _ c.raise-in-loop-i.ensures.1 c.raise-in-loop-i.ensures.0
+    totalling_more _ (table c.before.before.before.before.before.before.before) c.requires.0 _ _ c.loop-i.invariant c.loop-i-test.true _ c.trade_at-trade.ensures _ c.raise.ensures _ c.raise-in-loop-i.ensures
 
 pub returns : goal.returns
 returns c = gathered _ (table c.before.before) c.requires.0 _ _ c.loop-i.invariant c.loop-i-test.false

@@ -1,5 +1,5 @@
 use native.Mathlib.Omega.{arith}
-use Prim.Native.Nat.{ℕ, ◌+◌, ◌-◌, ◌≤◌}
+use Prim.Native.Nat.{ℕ, ◌+◌, ◌-◌}
 use mathlib.Core.Path.{◌≡◌, ap, sym, ◌∙◌}
 use mathlib.Core.List.{[]}
 use mathlib.Core.Bool.{Bool, true, ◌||◌}
@@ -31,17 +31,6 @@ After-is_client = lts.After-is_client tie.the-claims reads.Pre reads.Post goal.t
 abbrev table : Start → Trades
 table s = trade_table s.args.trades.now s.args.count s.args.netted
 
-pub loop-place-init : goal.loop-place-init
-loop-place-init c =
-    let none : c.args.netted - c.args.netted ≡ 0 = omega arith in
-    (omega arith, c.requires.fit.past, ap (λ (n : ℕ). some is_client (drop n (today (table c)))) none)
-
-pub trade_at-requires : goal.trade_at-requires
-trade_at-requires c = omega (arith, c.loop-place-test.true, c.requires.fit.held)
-
-pub is_client-requires : goal.is_client-requires
-is_client-requires c = tt
-
 -- the trade that is read is the first that is left
 module _ (x : After-is_client) where
   abbrev read : After-trade_at
@@ -61,12 +50,6 @@ pub returns-then-is_client : goal.returns-then-is_client
 returns-then-is_client c =
     let here : left (table (reached c.before).before.before) (reached c.before).before.loop-place.place ≡ true = first_left c.before ∙ ap (λ (b : Bool). b || left (table (reached c.before).before.before) ((reached c.before).before.loop-place.place + 1)) c.if-is_client.true in
     sym here ∙ (reached c.before).before.loop-place.invariant.2
-
-pub overflow_add-place : goal.overflow_add-place
-overflow_add-place c = omega arith
-
-pub loop-place-smaller : goal.loop-place-smaller
-loop-place-smaller c = omega arith
 
 pub loop-place-preserved : goal.loop-place-preserved
 loop-place-preserved c =

@@ -1,5 +1,4 @@
 -- `netting::net_day` meets its contract.
-use borrow.Author.Rules.{rules}
 use Rattle.netting.proofs.Appending.{none_netted}
 use Rattle.netting.proofs.net_day.Goals as goal
 

@@ -1,5 +1,4 @@
 -- `netting::place_of` meets its contract.
-use borrow.Author.Rules.{rules}
 use native.Mathlib.Omega.{arith}
 use Rattle.netting.specs.Gathering.{place_of}
 use Rattle.netting.proofs.place_of.Goals as goal

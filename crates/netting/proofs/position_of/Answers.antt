@@ -1,5 +1,4 @@
 -- `netting::position_of` meets its contract.
-use borrow.Author.Rules.{rules}
 use native.Mathlib.Omega.{arith}
 use Rattle.plain.specs.Netting.{made}
 use Rattle.netting.proofs.Made.{net_short, net_long}
@@ -9,6 +8,6 @@ pub returns-then-bought-sold : goal.returns-then-bought-sold
 unfolding made
 returns-then-bought-sold c = let a = c.args in net_short _ _ a.bought a.sold c.if-bought-sold.true
 
-pub returns : goal.returns
+pub returns-else-bought-sold : goal.returns-else-bought-sold
 unfolding made
-returns c = let a = c.args in net_long _ _ a.bought a.sold (omega (arith, c.if-bought-sold.false))
+returns-else-bought-sold c = let a = c.args in net_long _ _ a.bought a.sold (omega (arith, c.if-bought-sold.false))

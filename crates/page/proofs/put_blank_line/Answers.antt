@@ -1,44 +1,23 @@
-use Prim.Native.Nat.{ℕ, ◌+◌, ◌-◌, ◌≤◌}
-use native.Mathlib.Omega.{arith}
-use mathlib.Core.Path.{◌≡◌, refl, ap, sym, ◌∙◌}
-use mathlib.Core.List.{[], ◌∷◌, ◌++◌}
-use lib.ListN.{length, drop, replicate-append-replicate, length-set}
-use Rattle.report.specs.Pages.{Put, put_none, put_byte, put_text}
+-- `page::put_blank_line` meets its contract. The blanks are put, and then the line feed.
+use Rattle.std.proofs.Common.{ℕ, List, [], ◌∷◌, ◌++◌, ◌≡◌, ◌≤◌, length, drop, set, replicate, length-append, length-drop, length-take-le, ap, sym, ◌∙◌, arith}
+use Rattle.std.proofs.lemmas.List.{length-replicate}
+use Rattle.report.specs.Pages.{Put, put_byte}
 use Rattle.page.specs.Columns.{blanks, columns_from, line}
 use Rattle.page.proofs.put_blank_line.Goals as goal
 
-pub loop-i-init : goal.loop-i-init
-loop-i-init c = (omega arith, refl, put_none _)
+pub slice_bounds-fill-end-2 : goal.slice_bounds-fill-end-2
+slice_bounds-fill-end-2 c = sym (length-take-le 80 c.args.page.now (omega arith))
 
-pub bounds-page-i : goal.bounds-page-i
-bounds-page-i c = omega arith
-
-pub overflow_add-i : goal.overflow_add-i
-overflow_add-i c = omega arith
-
-pub loop-i-smaller : goal.loop-i-smaller
-loop-i-smaller c = omega (arith, length-set c.loop-i.page c.loop-i.i 32)
-
-pub loop-i-preserved : goal.loop-i-preserved
-loop-i-preserved c =
-    let k = c.loop-i in
-    let page = c.args.page.now in (
-      omega arith,
-      length-set k.page k.i 32 ∙ k.invariant.1,
-      put_text _ _ page _ (k.i + 1) (replicate-append-replicate k.i 1 32) (put_byte (blanks k.i) page k.page k.i k.invariant.2 32 (omega arith)),
-    )
-
-pub bounds-page-80 : goal.bounds-page-80
-bounds-page-80 c = omega arith
-
-pub shape_of-page : goal.shape_of-page
-shape_of-page c = length-set c.loop-i.page 80 10 ∙ c.loop-i.invariant.1
+blank : (page part : List ℕ) → 81 ≤ length page → part ≡ blanks 80 → set (part ++ drop 80 page) 80 10 ≡ (blanks 80 ++ (10 ∷ [])) ++ drop 81 page
+blank page part h e =
+    let long : length (blanks 80) ≡ 80 = length-replicate {A = ℕ} 80 32 in
+    let put : Put (blanks 80) page (part ++ drop 80 page) 80 = record { bytes = sym long; page = ap (λ (l : List ℕ). l ++ drop 80 page) e ∙ ap (λ (n : ℕ). blanks 80 ++ drop n page) (sym long) } in
+    let all = put_byte (blanks 80) page (part ++ drop 80 page) 80 put 10 (omega (arith, length-append part (drop 80 page), length-drop 80 page, ap length e, long)) in
+    all.page ∙ ap (λ (n : ℕ). (blanks 80 ++ (10 ∷ [])) ++ drop n page) (sym all.bytes)
 
 pub returns : goal.returns
 unfolding columns_from line
 returns c =
-    let k = c.loop-i in
     let page = c.args.page.now in
-    let i : k.i ≡ 80 = omega arith in
-    let all = put_byte (blanks 80) page k.page 80 (rw i at k.invariant.2) 10 (omega arith) in
-    all.page ∙ ap (λ (n : ℕ). (blanks 80 ++ (10 ∷ [])) ++ drop n page) (sym all.bytes)
+    blank page c.fill.new.self (omega arith)
+    (c.fill.ensures.after (λ y e. e) ∙ ap (λ (n : ℕ). replicate n 32) (length-take-le 80 page (omega arith)))

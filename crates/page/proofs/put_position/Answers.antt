@@ -12,7 +12,6 @@ use Rattle.page.specs.Columns.{Column, column, width}
 use Rattle.page.specs.Page.{isin_of, kind_letter, columns, page_line}
 use Rattle.page.proofs.Laying.{length_isin}
 use Rattle.page.proofs.Writing.{Written, next_written, room}
-use borrow.Author.Rules.{rules}
 use Rattle.page.proofs.put_position.Goals as goal
 use Rattle.page.proofs.put_position.Lts as lts
 use Rattle.page.proofs.put_position.Tie as tie
@@ -128,11 +127,6 @@ member k =
     let s = numbered_from k.before.before.before.before.before in
     next_written (take 1 (all s)) (column 6 7 (digits s.args.position.member)) s.args.page.now _ k.put_figure-2.new.page refl (all_take (λ c. length c.text ≤ width c) 2 (all s) s.requires.3) (numbered k.before.before.before.before.before) k.put_figure-2.ensures
 
-pub put_isin-requires : goal.put_isin-requires
-put_isin-requires c =
-    let s = member_from c.before.before.before in
-    (omega (arith, (member c.before.before.before).long, s.requires.0), s.requires.1, s.requires.2)
-
 named : (k : After-put_isin) → Upto (named_from k) 3 k.put_isin.new.page
 unfolding columns
 named k =
@@ -141,9 +135,6 @@ named k =
     let page = k.put_figure-2.new.page in
     let at : 8 ≡ 20 - length isin = omega (arith, length_isin s.args.isins.now s.args.position.security s.requires.1 s.requires.2) in
     next_written (take 2 (all s)) (column 9 20 isin) s.args.page.now page k.put_isin.new.page refl (all_take (λ c. length c.text ≤ width c) 3 (all s) s.requires.3) (member k.before.before.before.before) (k.put_isin.ensures ∙ ap (λ (n : ℕ). sets page n isin) at)
-
-pub bounds-page-21 : goal.bounds-page-21
-bounds-page-21 c = omega (arith, (named c.before.before.before).long, (sided_from c).requires.0)
 
 sided : (k : After-side_of) → Upto (sided_from k) 4 (set k.put_isin.new.page 21 k.side_of.result)
 unfolding columns
@@ -224,18 +215,12 @@ settlement k =
     let s = unsettled_from k.before.before.before.before.before in
     next_written (take 9 (all s)) (column 74 78 (digits s.args.position.settlement.0)) s.args.page.now _ k.put_figure-8.new.page refl (all_take (λ c. length c.text ≤ width c) 10 (all s) s.requires.3) (unsettled k.before.before.before.before.before) k.put_figure-8.ensures
 
-pub bounds-page-79 : goal.bounds-page-79
-bounds-page-79 c = omega (arith, (settlement c.before.before.before).long, (kind_from c).requires.0)
-
 kind : (k : After-kind_letter) → Upto (kind_from k) 11 (set k.put_figure-8.new.page 79 k.kind_letter.result)
 unfolding columns
 kind k =
     let s = settlement_from k.before.before.before in
     let page = k.put_figure-8.new.page in
     next_written (take 10 (all s)) (column 80 80 (kind_letter s.args.position.kind ∷ [])) s.args.page.now page (set page 79 k.kind_letter.result) refl (all_take (λ c. length c.text ≤ width c) 11 (all s) s.requires.3) (settlement k.before.before.before) (ap (set page 79) k.kind_letter.ensures)
-
-pub shape_of-page : goal.shape_of-page
-shape_of-page c = (kind c).long
 
 pub returns : goal.returns
 unfolding columns page_line

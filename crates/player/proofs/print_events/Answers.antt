@@ -4,8 +4,6 @@ use mathlib.Core.Path.{◌≡◌, refl, sym, ◌∙◌}
 use lib.ListN.{length}
 use borrow.Author.Rules.{rules}
 use Rattle.laws.specs.Limits.{SHEET_CELLS}
-use Rattle.ledger.specs.Posts.{ledger_of}
-use Rattle.machine.specs.View.{numbers}
 use Rattle.replay.proofs.Playing.{none_played}
 use Rattle.player.proofs.Pages.{Between, played_within, next_page, all_played}
 use Rattle.player.proofs.print_events.Goals as goal

@@ -5,15 +5,13 @@ use mathlib.Core.Path.{◌≡◌, refl, sym, ◌∙◌}
 use lib.ListN.{length}
 use borrow.Author.Rules.{rules}
 use Rattle.laws.specs.Limits.{SHEET_CELLS}
-use Rattle.ledger.specs.Posts.{ledger_of}
-use Rattle.machine.specs.View.{numbers}
 use Rattle.replay.proofs.Playing.{none_played}
 use Rattle.player.proofs.Pages.{Between, played_within, next_page, all_played}
 use Rattle.player.proofs.print_events.Given as goal
 
 abbrev pub invariant-loop-i : goal.invariant-loop-i
 invariant-loop-i l =
-    (Between l.file l.initial.played (numbers l.initial.rows l.initial.trades l.initial.awards l.initial.counts l.initial.starts l.initial.words (ledger_of l.initial.credits l.initial.debits)) l.page l.played (numbers l.rows l.trades l.awards l.counts l.starts l.words (ledger_of l.credits l.debits)) l.i)
+    (Between l.file l.initial.played l.initial.lent l.page l.played l.lent l.i)
     × (length l.sheet ≡ SHEET_CELLS)
     × (length l.page ≡ length l.initial.page)
 

@@ -1,20 +1,17 @@
-use borrow.Author.Rules.{rules}
-use borrow.Author.Tests.{eqb-true, eqb-false}
 use native.Mathlib.Omega.{arith}
-use native.Mathlib.Nat.{eq-or-lt_of_le}
 use Prim.Native.Nat.{ℕ, ◌≤◌, ◌<◌, ◌-◌, ◌+◌}
 use mathlib.Core.Path.{◌≡◌, refl, sym, ap, ◌∙◌}
 use mathlib.Core.Logic.{⊎_elim}
 use mathlib.Core.List.{List}
 use lib.ListN.{length, get_or}
-use Rattle.laws.specs.Limits.{PLACES, POSITION_CELLS, SHEET_CELLS}
+use Rattle.laws.specs.Limits.{PLACES}
 use Rattle.plain.specs.Book.{no_position}
 use Rattle.rows.specs.Rows.{rows_of}
 use Rattle.pieces.specs.Sheet.{pieces_of}
 use Rattle.tables.specs.Lent.{position_table, piece_table}
 use Rattle.pieces.proofs.Cells.{length_pieces}
-use Rattle.pieces.proofs.Filled.{StaysFilled, stays_same, stays_piece, piece_fills}
-use Rattle.positions.specs.Dealing.{share_of, DealtOut, ClosedBefore}
+use Rattle.pieces.proofs.Filled.{stays_same, stays_piece, piece_fills}
+use Rattle.positions.specs.Dealing.{share_of, DealtOut}
 use Rattle.positions.proofs.Shares.{due_share_is, share_open, share_left}
 use Rattle.positions.proofs.Walk.{State, Stands, Walk, Walked, walk_begin, walk_join, walk_next, stepped_none, stepped_some, walk_over, walk_late, walk_done, here_sized}
 use Rattle.positions.proofs.Table.{short_lowerable}
@@ -69,7 +66,7 @@ in_table c = c.loop-i-test.true
 -- a position of the day that the walk is at is due
 is_due : (c : After-share_of-units)
     → (get_or (rows_of (turn c).loop-i.rows) (turn c).loop-i.i no_position).settlement.0 ≤ (started (day_begun (turn c))).args.day.0
-is_due c = omega (arith, eqb-true, c.if-settlement_at-settlement.true-raw, c.settlement_at.ensures, (turn c).if-day-settlement.false)
+is_due c = omega (arith, c.if-settlement_at-settlement.true, c.settlement_at.ensures, (turn c).if-day-settlement.false)
 
 -- what a long takes is its share of what is left
 own_share : (c : After-share_of-units)
@@ -119,15 +116,6 @@ dealt_out_lem d rows sheet dealt left place stands walked =
     ends _ _ _ _ _ (started d).requires.dealing _ _ d.row_at-own.ensures _ d.lower.ensures.0
     _ (length_pieces (started d).args.sheet.now) rows _ dealt left place stands walked
 
-pub overflow_sub-place : goal.overflow_sub-place
-overflow_sub-place c = omega arith
-
-pub overflow_cast-place : goal.overflow_cast-place
-overflow_cast-place c = omega arith
-
-pub row_at-own-requires : goal.row_at-own-requires
-row_at-own-requires c = omega arith
-
 pub lower-requires : goal.lower-requires
 lower-requires c =
     let f = c.requires in
@@ -144,51 +132,6 @@ deal-init c = (
   (λ s f. f),
 )
 
-pub settlement_at-settlement-requires : goal.settlement_at-settlement-requires
-settlement_at-settlement-requires c = omega arith
-
-pub loop-i-init : goal.loop-i-init
-loop-i-init c =
-    let h = c.deal.invariant in
-    (walk_begin _ _ _ _ _ _ h.0.stands, omega arith, λ e. sym c.settlement_at-settlement.ensures, h.1, h.2, h.3, h.4, (λ s f. f))
-
-pub settlement_at-requires : goal.settlement_at-requires
-settlement_at-requires c = omega arith
-
-pub deal-smaller-else-settlement_at-settlement : goal.deal-smaller-else-settlement_at-settlement
-deal-smaller-else-settlement_at-settlement c =
-    ⊎_elim
-    (λ e. absurd (eqb-false _ _ c.if-settlement_at-settlement.false-raw (c.settlement_at.ensures ∙ c.loop-i.invariant.2 (sym e))))
-    (λ lt. omega arith)
-    (eq-or-lt_of_le c.loop-i.invariant.1)
-
-pub deal-preserved-else-settlement_at-settlement : goal.deal-preserved-else-settlement_at-settlement
-deal-preserved-else-settlement_at-settlement c =
-    (walk_join _ _ _ _ _ _ _ _ (day_begun c.before.before.before).deal.invariant.0 c.loop-i.invariant.0, c.loop-i.invariant.3, c.loop-i.invariant.4, c.loop-i.invariant.5, c.loop-i.invariant.6, (λ s f. c.loop-i.invariant.7 s ((day_begun c.before.before.before).deal.invariant.5 s f)))
-
-pub deal-smaller : goal.deal-smaller
-deal-smaller c = omega arith
-
-pub deal-preserved : goal.deal-preserved
-deal-preserved c =
-    (walk_join _ _ _ _ _ _ _ _ (day_begun c.before).deal.invariant.0 c.loop-i.invariant.0, c.loop-i.invariant.3, c.loop-i.invariant.4, c.loop-i.invariant.5, c.loop-i.invariant.6, (λ s f. c.loop-i.invariant.7 s ((day_begun c.before).deal.invariant.5 s f)))
-
-pub row_at-long-requires : goal.row_at-long-requires
-row_at-long-requires c = omega arith
-
-pub overflow_add-i : goal.overflow_add-i
-overflow_add-i c = omega arith
-
-pub overflow_cast-i : goal.overflow_cast-i
-overflow_cast-i c = omega arith
-
-pub put_piece-requires : goal.put_piece-requires
-put_piece-requires c =
-    ((turn c.before.before).loop-i.invariant.4, omega (arith, (turn c.before.before).loop-i.invariant.0.stands, in_table c.before.before))
-
-pub overflow_add-dealt : goal.overflow_add-dealt
-overflow_add-dealt c = omega arith
-
 pub lower-requires-then-units-gt0 : goal.lower-requires-then-units-gt0
 lower-requires-then-units-gt0 c = (
   (turn c.before.before.before.before).loop-i.invariant.3,
@@ -198,12 +141,6 @@ lower-requires-then-units-gt0 c = (
 
 pub overflow_sub-left : goal.overflow_sub-left
 overflow_sub-left c = rw c.share_of-units.ensures (share_left _ _ _)
-
-pub overflow_add-i-in-loop-i : goal.overflow_add-i-in-loop-i
-overflow_add-i-in-loop-i c = omega arith
-
-pub loop-i-smaller : goal.loop-i-smaller
-loop-i-smaller c = omega arith
 
 pub loop-i-preserved : goal.loop-i-preserved
 loop-i-preserved c =

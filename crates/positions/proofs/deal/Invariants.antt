@@ -1,24 +1,13 @@
-use borrow.Author.Rules.{rules}
-use borrow.Author.Tests.{eqb-true, eqb-false}
-use native.Mathlib.Omega.{arith}
-use native.Mathlib.Nat.{eq-or-lt_of_le}
-use Prim.Native.Nat.{ℕ, ◌≤◌, ◌<◌, ◌-◌, ◌+◌}
-use mathlib.Core.Path.{◌≡◌, refl, sym, ap, ◌∙◌}
-use mathlib.Core.Logic.{⊎_elim}
-use mathlib.Core.List.{List}
+use Prim.Native.Nat.{◌≤◌, ◌<◌, ◌-◌}
+use mathlib.Core.Path.{◌≡◌}
 use lib.ListN.{length, get_or}
-use Rattle.laws.specs.Limits.{PLACES, POSITION_CELLS, SHEET_CELLS}
+use Rattle.laws.specs.Limits.{POSITION_CELLS, SHEET_CELLS}
 use Rattle.plain.specs.Book.{no_position}
 use Rattle.rows.specs.Rows.{rows_of}
 use Rattle.pieces.specs.Sheet.{pieces_of}
-use Rattle.tables.specs.Lent.{position_table, piece_table}
-use Rattle.pieces.proofs.Cells.{length_pieces}
-use Rattle.pieces.proofs.Filled.{StaysFilled, stays_same, stays_piece, piece_fills}
-use Rattle.positions.specs.Dealing.{share_of, DealtOut, ClosedBefore}
-use Rattle.positions.proofs.Shares.{due_share_is, share_open, share_left}
-use Rattle.positions.proofs.Walk.{State, Stands, Walk, Walked, walk_begin, walk_join, walk_next, stepped_none, stepped_some, walk_over, walk_late, walk_done, here_sized}
-use Rattle.positions.proofs.Table.{short_lowerable}
-use Rattle.positions.proofs.Lent.{ends, handed_fill, skipped, closed_first, closed_taken, closed_passed, closed_changed}
+use Rattle.pieces.proofs.Filled.{StaysFilled}
+use Rattle.positions.specs.Dealing.{ClosedBefore}
+use Rattle.positions.proofs.Walk.{Walk}
 use Rattle.positions.proofs.deal.Given as goal
 
 abbrev pub invariant-loop-i : goal.invariant-loop-i

@@ -2,10 +2,9 @@
 use Prim.Native.Nat.{ℕ, ◌≤◌}
 use native.Mathlib.Omega.{arith}
 use mathlib.Core.Path.{◌≡◌, refl, ap, sym, subst}
-use borrow.Author.Rules.{rules}
 use Rattle.plain.specs.declared.Position.{Position}
 use Rattle.rows.specs.Lowering.{Sized, Lowerable}
-use Rattle.positions.proofs.Pairing.{other_kept, rows_fallen, piece_first, piece_alone}
+use Rattle.positions.proofs.Pairing.{rows_fallen, piece_first, piece_alone}
 use Rattle.positions.proofs.set_off.Goals as goal
 use Rattle.positions.proofs.set_off.Lts as lts
 use Rattle.positions.proofs.set_off.Tie as tie
@@ -25,22 +24,6 @@ start w = w.before.before
 can_fall : {p own : Position} {units asked : ℕ} → p ≡ own → Lowerable own units → asked ≤ units → Lowerable p asked
 can_fall e l h =
     record { enough = omega (arith, l.enough, ap (λ (x : Position). x.unsettled) e); sized = subst Sized (sym e) l.sized }
-
-pub lower-requires : goal.lower-requires
-lower-requires c =
-    let f = c.requires in
-    (f.rows_length, omega (arith, f.short_held.above, f.short_held.below), can_fall refl f.own (omega arith))
-
-pub lower-requires-2 : goal.lower-requires-2
-lower-requires-2 c =
-    let f = (start c.before).requires in (
-      c.lower.ensures.1,
-      omega (arith, f.long_held.above, f.long_held.below),
-      can_fall (other_kept _ _ _ _ f.short_held f.long_held f.apart _ c.lower.ensures.0) f.other (omega arith),
-    )
-
-pub put_piece-requires : goal.put_piece-requires
-put_piece-requires c = ((start c.before.before.before).requires.sheet_length, omega arith)
 
 pub returns : goal.returns
 returns c =

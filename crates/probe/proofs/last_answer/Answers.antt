@@ -17,7 +17,7 @@ pub before_last-before-requires : goal.before_last-before-requires
 before_last-before-requires c = c.requires
 
 pub outcome_on-requires : goal.outcome_on-requires
-outcome_on-requires c = c.before_last-before.ensures.0
+outcome_on-requires c = c.before_last-before.ensures.valid
 
 pub returns : goal.returns
 returns c =
@@ -25,4 +25,4 @@ returns c =
     let events = events_of a.file.now in
     let some : 0 < length events = omega (arith, c.events_in.ensures, c.if-events_in-eq0.false) in
     λ b opens.
-    last_some b a.closes events a.sheet some _ (view c.before_last-before.result) c.last_event-event.result (c.before_last-before.ensures.1 b opens) c.last_event-event.ensures c.outcome_on.ensures
+    last_some b a.closes events a.sheet some _ (view c.before_last-before.result) c.last_event.result (c.before_last-before.ensures.book b opens) c.last_event.ensures c.outcome_on.ensures

@@ -2,6 +2,7 @@
 use Prim.Native.Nat.{◌<◌}
 use native.Mathlib.Omega.{arith}
 use lib.ListN.{length}
+use mathlib.Core.Path.{◌∙◌}
 use borrow.Author.Rules.{rules}
 use Rattle.files.specs.File.{events_of}
 use Rattle.plain.specs.Histories.{run}
@@ -28,5 +29,5 @@ returns c =
     let events = events_of a.file.now in
     let some : 0 < length events = omega (arith, c.events_in-count.ensures, c.if-count-eq0.false) in
     λ b opens.
-    last_shown b events a.page.now c.before_last-before.result _ c.last_event-event.result _ _ _ _ _ _ _ _ some c.if-page-lt-BLOCK.false c.blank_pieces-blank.ensures.1 (c.before_last-before.ensures.1 b opens)
-    c.last_event-event.ensures c.events_in-count.ensures c.step_by_value-done.ensures.0 c.numbers_of-shown.ensures.1 c.answer_lines.ensures
+    last_shown b events a.page.now c.before_last-book.result _ c.last_event.result _ _ _ _ _ _ _ _ some c.if-page-lt-BLOCK.false c.blank_pieces-items.ensures.1 (c.before_last-book.ensures.book b opens)
+    c.last_event.ensures (c.from.ensures ∙ c.events_in-count.ensures) c.step-done.ensures c.numbers_of-shown.ensures.1 c.answer_lines.ensures

@@ -1,7 +1,6 @@
 -- `probe::outcome_on` meets its contract.
 use Rattle.probe.proofs.Outcomes.{on_longer}
-use borrow.Author.Rules.{rules}
 use Rattle.probe.proofs.outcome_on.Goals as goal
 
 pub returns : goal.returns
-returns c = on_longer _ _ _ _ _ _ _ c.blank_pieces-blank.ensures.1 c.if-places-lt-PLACES.false c.step_by_value-stepped.ensures.0.returned
+returns c = on_longer _ _ _ _ _ _ _ c.blank_pieces-items.ensures.1 c.if-places-lt-PLACES.false c.step-2.ensures.returned

@@ -4,20 +4,15 @@ use Rattle.probe.proofs.Lines.{refused_lines, accepted_lines}
 use borrow.Author.Rules.{rules}
 use Rattle.probe.proofs.probe_last_lines.Goals as goal
 
-pub returns-then-started-ne0 : goal.returns-then-started-ne0
-returns-then-started-ne0 c =
-    let a = c.args in
-    refused_lines a.input.now a.page.now c.start-started.result c.start-started.ensures c.if-started-ne0.true
-
 pub last_lines-requires : goal.last_lines-requires
-last_lines-requires c =
-    c.start-started.ensures.held c.if-started-ne0.false
+last_lines-requires c = c.in-Ok.ensures.ready.opened.opened.held
 
 pub overflow_cast-result : goal.overflow_cast-result
-overflow_cast-result c =
-    omega (arith, (c.last_lines.ensures _ c.start-started.ensures.book).most)
+overflow_cast-result c = omega (arith, (c.last_lines.ensures _ c.in-Ok.ensures.ready.opened.opened.book).most)
 
-pub returns : goal.returns
-returns c =
-    let a = c.args in
-    accepted_lines a.input.now a.page.now c.start-started.result c.start-started.ensures _ _ c.if-started-ne0.false (c.last_lines.ensures _ c.start-started.ensures.book)
+pub returns-in-Ok : goal.returns-in-Ok
+returns-in-Ok c =
+    accepted_lines c.args.input.now c.args.page.now _ c.in-Ok.ensures _ _ (c.last_lines.ensures _ c.in-Ok.ensures.ready.opened.opened.book)
+
+pub returns-in-Err : goal.returns-in-Err
+returns-in-Err c = refused_lines c.args.input.now c.args.page.now _ c.in-Err.ensures

@@ -8,7 +8,6 @@ use Rattle.rows.specs.Rows.{awards_of}
 use Rattle.tables.specs.Tables.{awards}
 use Rattle.kept.specs.View.{view}
 use Rattle.reading.proofs.Found.{there_is, found}
-use borrow.Author.Rules.{rules}
 use Rattle.reading.proofs.award_at.Goals as goal
 
 pub returns-then-not-is_within : goal.returns-then-not-is_within
@@ -21,8 +20,8 @@ returns-then-not-is_within c =
 pub overflow_sub-n : goal.overflow_sub-n
 overflow_sub-n c = within_low _ _ _ (passes c.if-not-is_within.false-raw c.is_within.ensures)
 
-pub award_at-found-requires : goal.award_at-found-requires
-award_at-found-requires c =
+pub award_at-requires : goal.award_at-requires
+award_at-requires c =
     let n = c.args.number in
     let count = c.args.core.awards in
     let e = passes c.if-not-is_within.false-raw c.is_within.ensures in
@@ -35,4 +34,4 @@ returns c =
     let f = h.valid.fits.awards in
     let fits : c.args.core.awards ≤ length (awards_of c.args.awards.now) = omega (arith, f.places, f.held) in
     let in_use = passes c.if-not-is_within.false-raw c.is_within.ensures in
-    rw (there_is no_award (awards_of c.args.awards.now) c.args.core.awards c.args.number fits, in_use, found no_award (awards_of c.args.awards.now) c.args.core.awards c.args.number fits in_use, c.award_at-found.ensures)
+    rw (there_is no_award (awards_of c.args.awards.now) c.args.core.awards c.args.number fits, in_use, found no_award (awards_of c.args.awards.now) c.args.core.awards c.args.number fits in_use, c.award_at.ensures)

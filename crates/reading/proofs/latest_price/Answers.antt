@@ -2,14 +2,8 @@
 use native.Mathlib.Omega.{arith}
 use Rattle.laws.specs.Asked.{Within, fails, passes, within_low, within_high}
 use Rattle.kept.specs.View.{view}
-use borrow.Author.Rules.{rules}
 use Rattle.reading.proofs.latest_price.Goals as goal
-use Rattle.reading.proofs.latest_price.Lts as lts
-use Rattle.reading.proofs.latest_price.Tie as tie
-use Rattle.reading.proofs.latest_price.Reads as reads
-
-abbrev Else-not-is_within : Type 0
-Else-not-is_within = lts.Else1 tie.the-claims reads.Pre reads.Post
+use Rattle.reading.proofs.latest_price.Goals.{Else-not-is_within}
 
 pub returns-then-not-is_within : goal.returns-then-not-is_within
 unfolding view
@@ -21,12 +15,12 @@ placed c =
     let e = passes c.if-not-is_within.false-raw c.is_within.ensures in
     record { above = within_low _ _ _ e; below = omega (arith, within_high _ _ _ e, c.requires.1.valid.fits.register.high) }
 
-pub latest_of-latest-requires : goal.latest_of-latest-requires
+pub latest_of-requires : goal.latest_of-requires
 unfolding view
-latest_of-latest-requires c =
+latest_of-requires c =
     (c.requires.1.valid.sound.standing.prices.many, placed c.before)
 
 pub returns : goal.returns
 unfolding view
 returns c =
-    λ a. rw (passes c.if-not-is_within.false-raw c.is_within.ensures, c.latest_of-latest.ensures)
+    λ a. rw (passes c.if-not-is_within.false-raw c.is_within.ensures, c.latest_of.ensures)

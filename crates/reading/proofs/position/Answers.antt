@@ -8,7 +8,6 @@ use Rattle.rows.specs.Rows.{rows_of}
 use Rattle.tables.specs.Tables.{positions}
 use Rattle.kept.specs.View.{view}
 use Rattle.reading.proofs.Found.{there_is, found}
-use borrow.Author.Rules.{rules}
 use Rattle.reading.proofs.position.Goals as goal
 
 pub returns-then-not-is_within : goal.returns-then-not-is_within
@@ -21,8 +20,8 @@ returns-then-not-is_within c =
 pub overflow_sub-n : goal.overflow_sub-n
 overflow_sub-n c = within_low _ _ _ (passes c.if-not-is_within.false-raw c.is_within.ensures)
 
-pub row_at-found-requires : goal.row_at-found-requires
-row_at-found-requires c =
+pub row_at-requires : goal.row_at-requires
+row_at-requires c =
     let n = c.args.number in
     let count = c.args.core.positions in
     let e = passes c.if-not-is_within.false-raw c.is_within.ensures in
@@ -35,4 +34,4 @@ returns c =
     let f = h.valid.fits.positions in
     let fits : c.args.core.positions ≤ length (rows_of c.args.rows.now) = omega (arith, f.places, f.held) in
     let in_use = passes c.if-not-is_within.false-raw c.is_within.ensures in
-    rw (there_is no_position (rows_of c.args.rows.now) c.args.core.positions c.args.number fits, in_use, found no_position (rows_of c.args.rows.now) c.args.core.positions c.args.number fits in_use, c.row_at-found.ensures)
+    rw (there_is no_position (rows_of c.args.rows.now) c.args.core.positions c.args.number fits, in_use, found no_position (rows_of c.args.rows.now) c.args.core.positions c.args.number fits in_use, c.row_at.ensures)

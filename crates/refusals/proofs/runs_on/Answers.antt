@@ -15,9 +15,3 @@ runs_none auction n e = subst (λ (k : ℕ). false ≡ runs_on k n) (sym e) refl
 
 runs_some : (auction n : ℕ) → auction ≢ 0 → eqb auction n ≡ runs_on auction n
 runs_some auction n h = sym (ap (λ (t : Bool). t && eqb auction n) (lt-ltb 0 auction (omega (arith, h))))
-
-pub returns-then-auction-eq0 : goal.returns-then-auction-eq0
-returns-then-auction-eq0 c = runs_none _ _ c.if-auction-eq0.true
-
-pub returns-else-auction-eq0 : goal.returns-else-auction-eq0
-returns-else-auction-eq0 c = runs_some _ _ c.if-auction-eq0.false

@@ -6,7 +6,6 @@ use Rattle.register.specs.Isin.{is_capital, value, digits, digit_sum, twice, dig
 use mathlib.Core.Path.{◌≡◌, ap, sym, ◌∙◌}
 use native.Mathlib.Omega.{arith}
 use Rattle.register.proofs.Digits.{letter_most, digit_most, letter_adds, digit_adds, digit_sum_most}
-use borrow.Author.Rules.{rules}
 use Rattle.register.proofs.character_sum.Goals as goal
 use Rattle.register.proofs.character_sum.Lts as lts
 use Rattle.register.proofs.character_sum.Tie as tie

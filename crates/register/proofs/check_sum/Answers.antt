@@ -1,8 +1,7 @@
 use mathlib.Core.Bool.{false}
-use Prim.Native.Nat.{ℕ, suc, ◌+◌, ◌-◌, ◌*◌, ◌≤◌, ◌<◌}
+use Prim.Native.Nat.{ℕ, suc, ◌-◌, ◌<◌}
 use native.Mathlib.Omega.{arith}
 use mathlib.Core.Path.{◌≡◌, ap, ◌∙◌}
-use borrow.Author.Rules.{rules}
 use mathlib.Core.List.{List, reverse}
 use lib.ListN.{length, take}
 use lib.Seq.{take-length}
@@ -17,18 +16,6 @@ unfolding check_sum
 loop-i-init c =
     let text = c.args.text.now in
     (omega arith, omega arith, zero-add _ ∙ ap (λ (l : List ℕ). digit_sums false (reverse (each digits l))) (take-length text))
-
-pub overflow_sub-i : goal.overflow_sub-i
-overflow_sub-i c = omega arith
-
-pub bounds-text-i : goal.bounds-text-i
-bounds-text-i c = omega arith
-
-pub overflow_add-sum : goal.overflow_add-sum
-overflow_add-sum c = omega (arith, c.character_sum-sum.ensures.1, c.requires)
-
-pub loop-i-smaller : goal.loop-i-smaller
-loop-i-smaller c = omega arith
 
 pub loop-i-preserved : goal.loop-i-preserved
 loop-i-preserved c =

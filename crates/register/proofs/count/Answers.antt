@@ -1,6 +1,5 @@
 -- `register::count` meets its contract.
 use Rattle.register.specs.Register.{count}
-use borrow.Author.Rules.{rules}
 use Rattle.register.proofs.count.Goals as goal
 
 pub returns : goal.returns

@@ -1,6 +1,5 @@
 -- `register::digit_sum` meets its contract.
 use Rattle.register.specs.Isin.{digit_sum}
-use borrow.Author.Rules.{rules}
 use Rattle.register.proofs.digit_sum.Goals as goal
 
 pub returns-then-doubled : goal.returns-then-doubled

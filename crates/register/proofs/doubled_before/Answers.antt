@@ -1,7 +1,6 @@
 -- `register::doubled_before` meets its contract.
 use mathlib.Core.Path.{sym}
 use Rattle.register.specs.Isin.{doubled_before}
-use borrow.Author.Rules.{rules}
 use Rattle.register.proofs.doubled_before.Goals as goal
 
 pub returns-then-is_capital : goal.returns-then-is_capital

@@ -3,7 +3,6 @@ use mathlib.Core.Path.{◌≡◌}
 use Prim.Native.Nat.{ℕ, ◌+◌, ◌-◌, ◌*◌}
 use native.Mathlib.Omega.{arith}
 use Rattle.register.specs.Register.{isin_at}
-use borrow.Author.Rules.{rules}
 use Rattle.register.proofs.isin_at.Goals as goal
 
 pub returns : goal.returns

@@ -1,34 +1,24 @@
 -- `register::read_register` meets its contract.
-use mathlib.Core.List.{List}
-use Prim.Native.Nat.{ℕ}
-use mathlib.Core.Path.{◌≡◌, sym, ◌∙◌}
-use Rattle.register.specs.declared.Register.{Register}
-use Rattle.register.specs.declared.RegisterRead.{RegisterRead}
-use Rattle.register.specs.Register.{refusal, register_read}
-use Rattle.register.specs.Accepted.{accepted_size, read_accepted, read_refused}
-use borrow.Author.Rules.{rules}
+use Rattle.std.proofs.Common.{Ok, sym, ap, ◌∙◌}
+use Rattle.std.proofs.lemmas.Result.{err_from_is_err_and}
+use Rattle.laws.specs.Answers.{answer_refused, answer_done}
+use Rattle.register.specs.Register.{register_read}
+use Rattle.register.specs.Accepted.{accepted_size, read_accepted}
 use Rattle.register.proofs.read_register.Goals as goal
 
-abbrev read : ℕ → Register → RegisterRead
-read number register = record { number = number; register = register }
-
-answer : (bytes : List ℕ) (number : ℕ) (register : Register) → number ≡ refusal bytes → register ≡ (register_read bytes).register → read number register ≡ register_read bytes
+pub returns-in_err-register_refusal : goal.returns-in_err-register_refusal
 unfolding register_read
-answer bytes number register e f = rw (e, f)
+returns-in_err-register_refusal c =
+    let p = err_from_is_err_and c.from_residual.result c.from_residual.ensures.1 in
+    rw (p.1, p.2) (answer_refused (register_read c.args.bytes.now).number _ _ c.in_err-register_refusal.ensures)
 
-pub register_of-register-requires : goal.register_of-register-requires
-register_of-register-requires c = accepted_size c.args.bytes.now (sym c.register_refusal-number.ensures ∙ c.if-number-eq0.true)
-
-pub returns-then-number-eq0 : goal.returns-then-number-eq0
-returns-then-number-eq0 c =
-    let bytes = c.args.bytes.now in
-    let e = c.register_refusal-number.ensures in
-    answer bytes c.register_refusal-number.result c.register_of-register.result e
-    (c.register_of-register.ensures ∙ sym (read_accepted bytes (sym e ∙ c.if-number-eq0.true)))
+pub register_of-requires : goal.register_of-requires
+register_of-requires c = accepted_size c.args.bytes.now (sym c.in_ok-register_refusal.ensures)
 
 pub returns : goal.returns
+unfolding register_read
 returns c =
     let bytes = c.args.bytes.now in
-    let e = c.register_refusal-number.ensures in
-    answer bytes c.register_refusal-number.result c.empty_register-register.result e
-    (c.empty_register-register.ensures ∙ sym (read_refused bytes (λ z. c.if-number-eq0.false (e ∙ z))))
+    let taken = sym c.in_ok-register_refusal.ensures in
+    ap Ok (c.register_of.ensures ∙ sym (read_accepted bytes taken))
+    ∙ answer_done (register_read bytes).number (register_read bytes).register taken

@@ -1,14 +1,17 @@
 -- `replay::ready` meets its contract.
-use Rattle.replay.proofs.Answers.{refused_register, checked_file}
-use borrow.Author.Rules.{rules}
+use Rattle.std.proofs.lemmas.Result.{err_from_is_err_and}
+use Rattle.replay.proofs.Answers.{refused_register, refused_file, passed}
 use Rattle.replay.proofs.ready.Goals as goal
 
-pub returns-then-unread-ne0 : goal.returns-then-unread-ne0
-returns-then-unread-ne0 c =
-    let args = c.args in
-    refused_register args.register.now args.file.now c.open_core-opened.result c.open_core-opened.ensures c.if-unread-ne0.true
+pub returns-in_err-core : goal.returns-in_err-core
+returns-in_err-core c =
+    let p = err_from_is_err_and c.from_residual.result c.from_residual.ensures.1 in
+    rw (p.1, p.2) (refused_register _ _ _ c.in_err-core.ensures.number)
+
+pub returns-in_err-file_refusal : goal.returns-in_err-file_refusal
+returns-in_err-file_refusal c =
+    let p = err_from_is_err_and c.from_residual-in_err-file_refusal.result c.from_residual-in_err-file_refusal.ensures.1 in
+    rw (p.1, p.2) (refused_file _ _ _ c.in_ok-core.ensures _ c.in_err-file_refusal.ensures)
 
 pub returns : goal.returns
-returns c =
-    let args = c.args in
-    checked_file args.register.now args.file.now c.open_core-opened.result c.open_core-opened.ensures c.if-unread-ne0.false c.file_refusal-number.result c.file_refusal-number.ensures
+returns c = passed _ _ _ c.in_ok-core.ensures c.in_ok-file_refusal.ensures

@@ -6,9 +6,8 @@ use mathlib.Core.List.{[], ◌∷◌, ◌++◌}
 use lib.ListN.{length, set, length-set}
 use Rattle.report.specs.Lines.{LINE, field, number, signed, amount, account_line}
 use Rattle.report.specs.Lengths.{most8, most_amount, account_most}
-use Rattle.report.specs.Pages.{Put, back, put_none, put_byte, put_lent, put_text, put_wrote, none_wrote, length_lent, back_length}
+use Rattle.report.specs.Pages.{Put, back, put_none, put_byte, put_lent, put_text, put_wrote, length_lent, back_length}
 use Rattle.report.proofs.Texts.{account_text_lem}
-use borrow.Author.Rules.{rules}
 use Rattle.report.proofs.account_line.Goals as goal
 use Rattle.report.proofs.account_line.Lts as lts
 use Rattle.report.proofs.account_line.Tie as tie
@@ -23,20 +22,9 @@ After-slice_known-2-1 = lts.After-slice_known2 tie.the-claims reads.Pre reads.Po
 abbrev After-slice_known-3-1 : Type 0
 After-slice_known-3-1 = lts.After-slice_known3 tie.the-claims reads.Pre reads.Post
 
-pub returns-then-page-lt-LINE : goal.returns-then-page-lt-LINE
-returns-then-page-lt-LINE c =
-    let a = c.args in
-    none_wrote LINE (account_line a.account (amount a.negative a.cents)) a.page.now c.if-page-lt-LINE.true
-
 -- the stored letter leaves the page as long as it was
 long : (c : Else-page-lt-LINE) → 80 ≤ length (set c.args.page.now 0 97)
 long c = omega (arith, length-set c.args.page.now 0 97, c.if-page-lt-LINE.false)
-
-pub slice_bounds-put_number-count : goal.slice_bounds-put_number-count
-slice_bounds-put_number-count c = omega (arith, long c)
-
-pub slice_bounds-put_number-start : goal.slice_bounds-put_number-start
-slice_bounds-put_number-start c = omega (arith, long c)
 
 pub put_number-named-requires : goal.put_number-named-requires
 put_number-named-requires c =
@@ -59,15 +47,6 @@ page_long c =
     let d = c.put_number-named in
     back_length 1 (set a.page.now 0 97) d.new.page d.auto.page ∙ length-set a.page.now 0 97
 
-pub overflow_add-named : goal.overflow_add-named
-overflow_add-named c = omega (arith, short c.before)
-
-pub slice_bounds-put_amount-count : goal.slice_bounds-put_amount-count
-slice_bounds-put_amount-count c = omega (arith, short c.before, page_long c.before, c.if-page-lt-LINE.false)
-
-pub slice_bounds-put_amount-start : goal.slice_bounds-put_amount-start
-slice_bounds-put_amount-start c = omega (arith, short c.before, page_long c.before, c.if-page-lt-LINE.false)
-
 pub put_amount-requires : goal.put_amount-requires
 put_amount-requires c =
     let d = c.put_number-named in
@@ -89,21 +68,8 @@ room : (c : After-slice_known-3-1) → 1 + c.put_number-named.result + c.put_amo
 room c =
     omega (arith, short c.before.before.before.before, little c, all_long c, c.if-page-lt-LINE.false)
 
-pub overflow_add-end : goal.overflow_add-end
-overflow_add-end c = omega (arith, short c.before.before.before.before, little c)
-
 pub bounds-page-end : goal.bounds-page-end
 bounds-page-end c = room c
-
-pub overflow_add-result : goal.overflow_add-result
-overflow_add-result c = omega (arith, short c.before.before.before.before, little c)
-
-pub shape_of-page : goal.shape_of-page
-shape_of-page c =
-    let a = c.args in
-    let d = c.put_number-named in
-    let z = c.put_amount in
-    length-set (back (1 + d.result) (back 1 (set a.page.now 0 97) d.new.page) z.new.page) (1 + d.result + z.result) 10 ∙ all_long c
 
 pub returns : goal.returns
 returns c =

@@ -1,15 +1,8 @@
--- `report::account_lines` meets its contract. The invariant: the lines of the accounts passed are put, in at most 80 bytes each.
-use native.Mathlib.Omega.{arith}
-use Prim.Native.Nat.{◌+◌, ◌-◌, ◌*◌, ◌≤◌, ◌<◌}
-use lib.ListN.{length, get_or}
-use Rattle.report.specs.Pages.{none_wrote, wrote_text}
-use Rattle.report.proofs.Blocks.{Lined, none_lined, lined_room, lined_next, lined_length, all_lined}
-use Rattle.report.specs.Lines.{LINE, accounts, account_lines}
-use Rattle.report.proofs.Amounts.{account_text, account_count, account_here, accounts_all}
+-- `report::account_lines` meets its contract. The line at an index is that of the account, if it is not zero.
+use Rattle.std.proofs.Common.{get_or}
+use Rattle.std.proofs.Math.IntN.{sub_ℕ}
+use Rattle.report.specs.Lines.{balance_text}
 use Rattle.report.proofs.account_lines.Given as goal
 
-abbrev pub invariant-loop-k : goal.invariant-loop-k
-invariant-loop-k l = Lined (account_text (record { credits = l.credits; debits = l.debits })) accounts 64 l.initial.page l.page l.at l.k
-
-abbrev pub decreases-loop-k : goal.decreases-loop-k
-decreases-loop-k l = 64 - l.k
+abbrev pub ghost-put_lines : goal.ghost-put_lines
+ghost-put_lines a = λ i. balance_text i (sub_ℕ (get_or a.line.0.now.credits i 0) (get_or a.line.0.now.debits i 0))

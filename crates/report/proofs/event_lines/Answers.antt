@@ -5,17 +5,8 @@ use mathlib.Core.Path.{◌≡◌}
 use lib.ListN.{length, take}
 use Rattle.pieces.specs.Sheet.{pieces_of}
 use Rattle.report.specs.Lines.{LINE, event_line, event_lines, piece_lines}
-use Rattle.report.specs.Pages.{none_wrote, put_wrote, wrote_put, wrote_lent, put_length}
-use borrow.Author.Rules.{rules}
+use Rattle.report.specs.Pages.{put_wrote, wrote_put, wrote_lent, put_length}
 use Rattle.report.proofs.event_lines.Goals as goal
-
-pub returns-then-page-stop : goal.returns-then-page-stop
-returns-then-page-stop c =
-    let a = c.args in
-    none_wrote (LINE * (1 + min a.count 1024)) (event_lines a.number a.refusal a.quantity (take a.count (pieces_of a.sheet.now))) a.page.now (omega (arith, c.if-page-stop.true))
-
-pub overflow_add-result : goal.overflow_add-result
-overflow_add-result c = omega (arith, c.piece_lines.ensures.most)
 
 pub returns : goal.returns
 unfolding event_lines
@@ -24,7 +15,7 @@ returns c =
     let v = c.event_line-at in
     let d = c.piece_lines in
     let text = event_line a.number a.refusal a.quantity in
-    let enough : LINE * (1 + min a.count 1024) ≤ length a.page.now = omega (arith, c.if-page-stop.false, c.at_most-stop.ensures) in
+    let enough : LINE * (1 + min a.count 1024) ≤ length a.page.now = omega (arith, c.if-page-stop.false, c.min-stop.ensures) in
     let first = wrote_put LINE text a.page.now v.new.page v.result (omega arith) v.ensures in
     let long : length v.new.page ≡ length a.page.now = put_length text a.page.now v.new.page v.result first (omega (arith, v.ensures.most)) in
     let more = take a.count (pieces_of a.sheet.now) in

@@ -2,7 +2,6 @@
 use native.Mathlib.Omega.{arith}
 use Rattle.report.specs.Lines.{piece_line}
 use Rattle.report.specs.Lengths.{piece_most}
-use borrow.Author.Rules.{rules}
 use Rattle.report.proofs.piece_line.Goals as goal
 
 pub put_line-requires : goal.put_line-requires

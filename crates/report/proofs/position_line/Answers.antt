@@ -7,9 +7,8 @@ use lib.ListN.{length, set, length-set}
 use Rattle.plain.specs.declared.Position.{Position}
 use Rattle.report.specs.Lines.{LINE, numbers, position_line}
 use Rattle.report.specs.Lengths.{named_most, figures_most, position_most}
-use Rattle.report.specs.Pages.{Put, back, put_none, put_byte, put_lent, put_text, put_count, put_wrote, none_wrote, length_lent, back_length, put_length}
+use Rattle.report.specs.Pages.{Put, back, put_none, put_byte, put_lent, put_text, put_count, put_wrote, length_lent, back_length}
 use Rattle.report.proofs.Texts.{position_text_lem}
-use borrow.Author.Rules.{rules}
 use Rattle.report.proofs.position_line.Goals as goal
 use Rattle.report.proofs.position_line.Lts as lts
 use Rattle.report.proofs.position_line.Tie as tie
@@ -33,11 +32,6 @@ After-side_of = lts.After-side_of tie.the-claims reads.Pre reads.Post
 abbrev After-slice_known-3-1 : Type 0
 After-slice_known-3-1 = lts.After-slice_known3 tie.the-claims reads.Pre reads.Post
 
-pub returns-then-page-lt-LINE : goal.returns-then-page-lt-LINE
-returns-then-page-lt-LINE c =
-    let a = c.args in
-    none_wrote LINE (position_line a.number a.position) a.page.now c.if-page-lt-LINE.true
-
 -- the places at which the numbers are known, the first of them are put, and the rest of them are
 abbrev enough : After-struct_known-7-1 → Else-page-lt-LINE
 enough c = c.before.before.before.before.before.before.before
@@ -60,12 +54,6 @@ names c =
 abbrev figures : Position → List ℕ
 figures p = p.netted ∷ p.delivered ∷ p.bought ∷ p.cash ∷ p.paired ∷ p.unsettled ∷ []
 
-pub overflow_cast-figures-5 : goal.overflow_cast-figures-5
-overflow_cast-figures-5 c = omega (arith, c.struct_known-6-1.given)
-
-pub overflow_cast-figures-6 : goal.overflow_cast-figures-6
-overflow_cast-figures-6 c = omega (arith, c.struct_known-7-1.given)
-
 -- the stored letter leaves the page as long as it was
 long : (c : After-struct_known-7-1) → 80 ≤ length (set (start c).args.page.now 0 115)
 long c = omega (arith, length-set (start c).args.page.now 0 115, (enough c).if-page-lt-LINE.false)
@@ -82,12 +70,6 @@ figures_few c =
 brief : (c : After-struct_known-7-1) → length (position_line (start c).args.number (start c).args.position) ≤ LINE
 brief c =
     position_most (start c).args.number (start c).args.position (start c).ranges.number.fits (omega (arith, c.struct_known-7-1.given)) (omega (arith, c.struct_known-7-1.given)) (omega (arith, c.struct_known-7-1.given)) (omega (arith, c.struct_known-7-1.given)) (omega (arith, c.struct_known-7-1.given)) (omega (arith, c.struct_known-7-1.given)) (omega (arith, c.struct_known-7-1.given))
-
-pub slice_bounds-put_numbers-count : goal.slice_bounds-put_numbers-count
-slice_bounds-put_numbers-count c = omega (arith, long c)
-
-pub slice_bounds-put_numbers-start : goal.slice_bounds-put_numbers-start
-slice_bounds-put_numbers-start c = omega (arith, long c)
 
 pub put_numbers-named-requires : goal.put_numbers-named-requires
 put_numbers-named-requires c =
@@ -111,14 +93,8 @@ long₁ m =
     let d = m.put_numbers-named in
     omega (arith, back_length 1 (set (start (begun m)).args.page.now 0 115) d.new.page d.auto.page, long (begun m))
 
-pub overflow_add-named : goal.overflow_add-named
-overflow_add-named c = omega (arith, short c)
-
 pub bounds-page-named : goal.bounds-page-named
 bounds-page-named c = omega (arith, short c, long₁ c)
-
-pub overflow_add-letter : goal.overflow_add-letter
-overflow_add-letter c = omega (arith, short c)
 
 -- the page after the position's side
 abbrev page₂ : After-side_of → List ℕ
@@ -136,9 +112,6 @@ pub bounds-page-letter : goal.bounds-page-letter
 bounds-page-letter c =
     let r = c.put_numbers-named.result in
     omega (arith, length-set (page₁ c.before) (1 + r) 32, short c.before, long₁ c.before)
-
-pub overflow_add-from : goal.overflow_add-from
-overflow_add-from c = omega (arith, short c.before)
 
 pub slice_bounds-put_numbers-count-2 : goal.slice_bounds-put_numbers-count-2
 slice_bounds-put_numbers-count-2 c = omega (arith, short c.before, long₂ c)
@@ -168,14 +141,8 @@ little e =
     let m = (sided e).before in
     omega (arith, e.put_numbers.ensures.bytes, figures_few (begun m), short m)
 
-pub overflow_add-end : goal.overflow_add-end
-overflow_add-end c = omega (arith, little c)
-
 pub bounds-page-end : goal.bounds-page-end
 bounds-page-end c = omega (arith, little c, long₃ c)
-
-pub overflow_add-result : goal.overflow_add-result
-overflow_add-result c = omega (arith, little c)
 
 -- the whole line is put
 whole : (e : After-slice_known-3-1) → let a = (start (begun (sided e).before)).args in
@@ -198,12 +165,6 @@ whole e =
     let w₅ = put_byte (t₁ ++ (32 ∷ []) ++ (s ∷ []) ++ six) page (page₃ e) (end e) w₄ 10 (omega (arith, little e, long₃ e)) in
     put_text (t₁ ++ (32 ∷ []) ++ (s ∷ []) ++ six ++ (10 ∷ [])) (position_line a.number p) page (set (page₃ e) (end e) 10) (end e + 1)
     (ap (λ (x : ℕ). t₁ ++ (32 ∷ []) ++ (x ∷ []) ++ six ++ (10 ∷ [])) o.side_of.ensures ∙ position_text_lem a.number p) w₅
-
-pub shape_of-page : goal.shape_of-page
-shape_of-page c =
-    let k = begun (sided c).before in
-    let a = (start k).args in
-    put_length (position_line a.number a.position) a.page.now _ _ (whole c) (omega (arith, little c, (enough k).if-page-lt-LINE.false))
 
 pub returns : goal.returns
 returns c =

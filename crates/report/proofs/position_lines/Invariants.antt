@@ -1,25 +1,9 @@
--- `report::position_lines` meets its contract. The invariant: the lines of the positions passed are put, in at most 80 bytes each.
-use native.Mathlib.Omega.{arith}
-use Prim.Native.Nat.{ℕ, ◌+◌, ◌-◌, ◌*◌, ◌≤◌, ◌<◌}
-use mathlib.Core.Path.{◌≡◌, ap, ◌∙◌}
-use mathlib.Core.List.{List}
-use lib.ListN.{length, take, get_or}
-use Rattle.laws.specs.Lists.{each, range}
-use Rattle.laws.specs.Listed.{length_range}
-use Rattle.report.specs.Pages.{none_wrote, wrote_text}
-use Rattle.report.proofs.Blocks.{Lined, none_lined, lined_room, lined_next, lined_length, all_lined, position_text, position_here, positions_all}
-use Rattle.rows.proofs.Cells.{length_rows}
-use Rattle.tables.specs.Tables.{PositionsFit, positions}
-use Rattle.tables.specs.Lent.{position_table}
-use Rattle.report.specs.Lines.{LINE, position_line, position_lines}
+-- `report::position_lines` meets its contract. The line at an index is that of the position there, by its number.
+use Rattle.std.proofs.Common.{get_or, ◌+◌}
+use Rattle.plain.specs.Book.{no_position}
+use Rattle.rows.specs.Rows.{rows_of}
+use Rattle.report.specs.Lines.{position_line}
 use Rattle.report.proofs.position_lines.Given as goal
 
--- the line of each position
-abbrev pub line_of : List ℕ → ℕ → ℕ → List ℕ
-line_of rows count = position_text position_line (positions (position_table rows count))
-
-abbrev pub invariant-loop-i : goal.invariant-loop-i
-invariant-loop-i l = Lined (line_of l.rows l.count) (range 1 l.count) l.count l.initial.page l.page l.at l.i
-
-abbrev pub decreases-loop-i : goal.decreases-loop-i
-decreases-loop-i l = l.count - l.i
+abbrev pub ghost-put_lines : goal.ghost-put_lines
+ghost-put_lines a = λ i. position_line (i + 1) (get_or (rows_of a.line.0.now) i no_position)

@@ -1,11 +1,10 @@
 -- `report::put_digits` meets its contract. The invariant: the digits still to come, with the page from where they end, are the page to be.
-use Prim.Native.Nat.{ℕ, ◌≤◌}
-use mathlib.Core.Path.{◌≡◌, refl, sym, subst, ◌∙◌}
+use Prim.Native.Nat.{◌≤◌}
+use mathlib.Core.Path.{◌≡◌}
 use mathlib.Core.List.{◌++◌}
-use lib.ListN.{length, drop, length-set}
-use native.Mathlib.Omega.{arith}
-use Rattle.report.specs.Digits.{digits, length_one}
-use Rattle.report.proofs.Stored.{Unstored, all_unstored, two_stored, last_digit, last_stored, all_stored}
+use lib.ListN.{length, drop}
+use Rattle.report.specs.Digits.{digits}
+use Rattle.report.proofs.Stored.{Unstored}
 use Rattle.report.proofs.put_digits.Given as goal
 
 abbrev pub invariant-loop-at : goal.invariant-loop-at

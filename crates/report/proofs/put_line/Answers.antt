@@ -5,8 +5,7 @@ use mathlib.Core.Path.{◌≡◌, ◌∙◌}
 use mathlib.Core.List.{List, [], ◌∷◌, ◌++◌}
 use lib.ListN.{length, set, length-set, length-append}
 use Rattle.report.specs.Lines.{LINE, numbers}
-use Rattle.report.specs.Pages.{Put, back, none_wrote, put_wrote, put_none, put_byte, put_lent, length_lent, back_length}
-use borrow.Author.Rules.{rules}
+use Rattle.report.specs.Pages.{Put, back, put_wrote, put_none, put_byte, put_lent, back_length}
 use Rattle.report.proofs.put_line.Goals as goal
 use Rattle.report.proofs.put_line.Lts as lts
 use Rattle.report.proofs.put_line.Tie as tie
@@ -36,27 +35,9 @@ filled c =
 abbrev line : Start → List ℕ
 line s = s.args.letter ∷ (numbers s.args.list.now ++ (10 ∷ []))
 
-pub returns-then-page-lt-LINE : goal.returns-then-page-lt-LINE
-returns-then-page-lt-LINE c =
-    none_wrote LINE (line c.before.before.before.before) c.args.page.now c.if-page-lt-LINE.true
-
 -- the fields have at most 78 bytes, and so there is room for them
 short : (s : Start) → length (numbers s.args.list.now) + 2 ≤ LINE
 short s = omega (arith, s.requires, length-append (numbers s.args.list.now) (10 ∷ []))
-
-pub bounds-page-0 : goal.bounds-page-0
-bounds-page-0 c = omega (arith, c.if-page-lt-LINE.false)
-
-pub slice_bounds-put_numbers-count : goal.slice_bounds-put_numbers-count
-slice_bounds-put_numbers-count c = simp length-set (omega (arith, c.if-page-lt-LINE.false))
-
-pub slice_bounds-put_numbers-start : goal.slice_bounds-put_numbers-start
-slice_bounds-put_numbers-start c = simp length-set (omega (arith, c.if-page-lt-LINE.false))
-
-pub put_numbers-end-requires : goal.put_numbers-end-requires
-put_numbers-end-requires c =
-    let a = (start c.before.before).args in
-    omega (arith, short (start c.before.before), c.if-page-lt-LINE.false, length_lent 1 (set a.page.now 0 a.letter), length-set a.page.now 0 a.letter)
 
 -- the letter and the fields are put
 put : (c : After-slice_known-2-1) → let a = (start (enough c)).args in
@@ -74,18 +55,6 @@ long c =
 
 few : (c : After-slice_known-2-1) → c.put_numbers-end.result + 2 ≤ LINE
 few c = omega (arith, c.put_numbers-end.ensures.bytes, short (start (enough c)))
-
-pub overflow_add-end : goal.overflow_add-end
-overflow_add-end c = omega (arith, few c.before)
-
-pub bounds-page-end : goal.bounds-page-end
-bounds-page-end c = omega (arith, long c.before, few c.before, (enough c.before).if-page-lt-LINE.false)
-
-pub overflow_add-result : goal.overflow_add-result
-overflow_add-result c = omega (arith, few c.before)
-
-pub shape_of-page : goal.shape_of-page
-shape_of-page c = length-set (filled c.before) (1 + c.put_numbers-end.result) 10 ∙ long c.before
 
 pub returns : goal.returns
 returns c =

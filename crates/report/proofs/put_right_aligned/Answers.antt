@@ -4,26 +4,10 @@ use native.Mathlib.Omega.{arith}
 use mathlib.Core.Path.{◌≡◌, ap, ◌∙◌}
 use lib.ListN.{length}
 use lib.Seq.{sets}
-use borrow.Author.Rules.{rules}
-use borrow.Author.Tests.{lt-ltb, le-ltb}
+use borrow.Author.Tests.{le-ltb}
 use Rattle.report.specs.Digits.{digits}
 use Rattle.report.specs.Pages.{back, lent, length_lent, put_sets, sets_lent}
 use Rattle.report.proofs.put_right_aligned.Goals as goal
-
-pub returns-then-page-width : goal.returns-then-page-width
-returns-then-page-width c =
-    let a = c.args in
-    rw (lt-ltb (length a.page.now) a.width c.if-page-width.true)
-
-pub returns-then-width-count : goal.returns-then-width-count
-returns-then-width-count c =
-    let a = c.args in
-    rw (le-ltb (length a.page.now) a.width c.if-page-width.false, lt-ltb a.width (length (digits a.n)) (omega (arith, c.digit_count-count.ensures, c.if-width-count.true)))
-
-pub put_digits-requires : goal.put_digits-requires
-put_digits-requires c =
-    let a = c.args in
-    omega (arith, c.digit_count-count.ensures, c.if-page-width.false, length_lent (a.width - c.digit_count-count.result) a.page.now)
 
 pub returns : goal.returns
 returns c =

@@ -1,7 +1,6 @@
 -- `report::refusal_line` meets its contract: the line is no longer than a page has room for.
 use Rattle.report.specs.Lines.{refusal_line}
 use Rattle.report.specs.Lengths.{refusal_most}
-use borrow.Author.Rules.{rules}
 use Rattle.report.proofs.refusal_line.Goals as goal
 
 pub put_line-requires : goal.put_line-requires

@@ -3,7 +3,7 @@ use Rattle.sheet.proofs.Filling.{has_room, returned_on}
 use Rattle.sheet.proofs.step.Goals as goal
 
 pub fill-requires : goal.fill-requires
-fill-requires c = (c.step-done.ensures.pieces_fit, has_room _ _ _ _ c.step-done.ensures)
+fill-requires c = (c.step-done.ensures.pieces_fit, has_room _ _ _ _ _ c.step-done.ensures)
 
 pub returns : goal.returns
-returns c = returned_on _ _ _ _ _ c.step-done.ensures c.fill.ensures _ _ _ c.reported.ensures
+returns c = returned_on _ _ _ _ _ _ c.step-done.ensures c.fill.ensures

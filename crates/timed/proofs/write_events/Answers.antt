@@ -4,8 +4,7 @@ use mathlib.Core.Path.{◌≡◌}
 use lib.ListN.{length}
 use borrow.Author.Rules.{rules}
 use Rattle.laws.specs.Limits.{SHEET_CELLS}
-use Rattle.ledger.specs.Posts.{ledger_of}
-use Rattle.machine.specs.View.{numbers, book_of}
+use Rattle.machine.specs.View.{book_of}
 use Rattle.timed.proofs.Writing.{Going, none_yet, within_page, part_room, next_part, all_begun}
 use Rattle.timed.proofs.write_events.Goals as goal
 use Rattle.timed.proofs.write_events.Lts as lts

@@ -5,14 +5,13 @@ use mathlib.Core.Path.{◌≡◌}
 use lib.ListN.{length}
 use borrow.Author.Rules.{rules}
 use Rattle.laws.specs.Limits.{SHEET_CELLS}
-use Rattle.ledger.specs.Posts.{ledger_of}
-use Rattle.machine.specs.View.{numbers, book_of}
+use Rattle.machine.specs.View.{book_of}
 use Rattle.timed.proofs.Writing.{Going, none_yet, within_page, part_room, next_part, all_begun}
 use Rattle.timed.proofs.write_events.Given as goal
 
 abbrev pub invariant-loop-i : goal.invariant-loop-i
 invariant-loop-i l =
-    (Going l.file (book_of l.initial.played (numbers l.initial.rows l.initial.trades l.initial.awards l.initial.counts l.initial.starts l.initial.words (ledger_of l.initial.credits l.initial.debits))) l.initial.page l.page l.played (numbers l.rows l.trades l.awards l.counts l.starts l.words (ledger_of l.credits l.debits)) l.i l.bytes)
+    (Going l.file (book_of l.initial.played l.initial.lent) l.initial.page l.page l.played l.lent l.i l.bytes)
     × (length l.sheet ≡ SHEET_CELLS)
 
 abbrev pub decreases-loop-i : goal.decreases-loop-i

@@ -10,8 +10,8 @@ use Rattle.files.specs.File.{events_of}
 use Rattle.plain.specs.Histories.{calls_of}
 use Rattle.machine.specs.declared.Answered.{Answered}
 use Rattle.machine.specs.declared.Core.{Core}
-use Rattle.ledger.specs.Posts.{ledger_of}
-use Rattle.machine.specs.View.{Numbers, numbers, book_of, Held}
+use Rattle.machine.specs.declared.Numbers.{Numbers}
+use Rattle.machine.specs.View.{book_of, Held}
 use Rattle.calls.specs.Stepping.{Stepped}
 use Rattle.calls.proofs.Stepping.{stepped_bare, stepped_on}
 use Rattle.report.specs.Pages.{lent}
@@ -25,23 +25,23 @@ use Rattle.transcript.proofs.play_events.Tie as tie
 use Rattle.transcript.proofs.play_events.Reads as reads
 
 abbrev At-loop-next : Type 0
-At-loop-next = lts.At-loop tie.the-claims reads.Pre reads.Post goal.the-invariant-loop-next goal.the-decreases-loop-next
+At-loop-next = lts.At-loop tie.the-claims reads.Pre reads.Post goal.the-invariant-loop-next goal.the-decreases-loop-next tie.handed_clauses
 
 abbrev Then-used-room : Type 0
-Then-used-room = lts.Then1 tie.the-claims reads.Pre reads.Post goal.the-invariant-loop-next goal.the-decreases-loop-next
+Then-used-room = lts.Then1 tie.the-claims reads.Pre reads.Post goal.the-invariant-loop-next goal.the-decreases-loop-next tie.handed_clauses
 
 abbrev After-event_at-event : Type 0
-After-event_at-event = lts.After-event_at tie.the-claims reads.Pre reads.Post goal.the-invariant-loop-next goal.the-decreases-loop-next
+After-event_at-event = lts.After-event_at tie.the-claims reads.Pre reads.Post goal.the-invariant-loop-next goal.the-decreases-loop-next tie.handed_clauses
 
 abbrev Joined-event : Type 0
-Joined-event = lts.At-match-branch tie.the-claims reads.Pre reads.Post goal.the-invariant-loop-next goal.the-decreases-loop-next
+Joined-event = lts.At-match-branch tie.the-claims reads.Pre reads.Post goal.the-invariant-loop-next goal.the-decreases-loop-next tie.handed_clauses
 
 -- where a turn begins
 abbrev turn : After-event_at-event → At-loop-next
 turn e = e.before.before.before
 
 abbrev tables : At-loop-next → Numbers
-tables k = numbers k.loop-next.rows k.loop-next.trades k.loop-next.awards k.loop-next.counts k.loop-next.starts k.loop-next.words (ledger_of k.loop-next.credits k.loop-next.debits)
+tables k = k.loop-next.lent
 
 held : (e : After-event_at-event) → Held (turn e).loop-next.last.core (tables (turn e))
 held e = (turn e).loop-next.invariant.0.played'.held
@@ -54,7 +54,7 @@ overflow_cast-count c = omega arith
 
 pub loop-next-init : goal.loop-next-init
 loop-next-init c =
-    (none_reached _ _ _ _ _ (rw c.unplayed-last.ensures c.requires.0), c.requires.1, none_filled c.args.file.now _ c.args.from _)
+    (none_reached _ _ _ _ _ (rw c.done-last.ensures c.requires.0), c.requires.1, none_filled c.args.file.now _ c.args.from _)
 
 pub overflow_add-used : goal.overflow_add-used
 overflow_add-used c = omega (arith, c.loop-next.invariant.0.fits)
@@ -75,55 +75,40 @@ trade-last-requires c = (held c.before.before.before.before).lent.trades
 pub price-last-requires : goal.price-last-requires
 price-last-requires c = (_, held c.before.before.before)
 
-pub delivery-last-requires : goal.delivery-last-requires
-delivery-last-requires c = ((_, _, held c.before.before.before.before.before.before.before.before), long c.before.before.before.before.before.before.before.before)
-
 pub attempt-last-requires : goal.attempt-last-requires
-attempt-last-requires c = (tables (turn c.before.before.before), held c.before.before.before)
+attempt-last-requires c = (c.loop-next.lent, c.loop-next.invariant.0.played'.held)
 
 pub offer-last-requires : goal.offer-last-requires
-offer-last-requires c = (tables (turn c.before.before.before), held c.before.before.before)
+offer-last-requires c = (c.loop-next.lent, c.loop-next.invariant.0.played'.held)
 
 pub award-last-requires : goal.award-last-requires
-award-last-requires c = (tables (turn c.before.before.before.before), held c.before.before.before.before)
-
-pub confirm-last-requires : goal.confirm-last-requires
-confirm-last-requires c = ((_, held c.before.before.before.before.before.before.before.before.before.before.before), long c.before.before.before.before.before.before.before.before.before.before.before)
-
-pub cash-last-requires : goal.cash-last-requires
-cash-last-requires c = ((_, _, held c.before.before.before.before.before.before.before.before.before.before), long c.before.before.before.before.before.before.before.before.before.before)
-
-pub close-last-requires : goal.close-last-requires
-close-last-requires c = (_, held c.before.before.before.before.before.before.before.before)
-
-pub pair_off-last-requires : goal.pair_off-last-requires
-pair_off-last-requires c = ((_, _, _, held c.before.before.before.before.before.before.before), long c.before.before.before.before.before.before.before)
+award-last-requires c = (c.loop-next.lent, c.loop-next.invariant.0.played'.held)
 
 -- each arm makes the call of its kind: what they come to where they meet
 stepped : (c : Joined-event)
-    → Stepped (turn c.before).loop-next.last.core (tables (turn c.before)) c.event_at-event.result (turn c.before).loop-next.sheet c.match-event.last.core (numbers c.match-event.rows c.match-event.trades c.match-event.awards c.match-event.counts c.match-event.starts c.match-event.words (ledger_of c.match-event.credits c.match-event.debits)) c.match-event.sheet c.match-event.last.outcome c.match-event.last.pieces
+    → Stepped (turn c.before).loop-next.last.core (tables (turn c.before)) c.event_at-event.result (turn c.before).loop-next.sheet c.match-event.last.core c.match-event.lent c.match-event.sheet c.match-event.last.outcome c.match-event.last.pieces
 stepped c =
     let h = held c.before in
     let l = long c.before in
     ⊎_elim
-    (λ w. rw (w.rows-is, w.trades-is, w.awards-is, w.counts-is, w.starts-is, w.words-is, w.credits-is, w.debits-is, w.sheet-is, w.last-is) (stepped_bare _ _ _ _ _ _ _ _ _ w.in-Trade.is refl l (w.trade-last.ensures (tables (turn c.before)) h)))
+    (λ w. rw (w.lent-is, w.sheet-is, w.last-is) (stepped_bare _ _ _ _ _ _ _ _ _ w.in-Trade.is refl l (w.trade-last.ensures (tables (turn c.before)) h)))
     (⊎_elim
-    (λ w. rw (w.rows-is, w.trades-is, w.awards-is, w.counts-is, w.starts-is, w.words-is, w.credits-is, w.debits-is, w.sheet-is, w.last-is) (stepped_bare _ _ _ _ _ _ _ _ _ w.in-Price.is refl l (w.price-last.ensures _ h)))
+    (λ w. rw (w.lent-is, w.sheet-is, w.last-is) (stepped_bare _ _ _ _ _ _ _ _ _ w.in-Price.is refl l (w.price-last.ensures _ h)))
     (⊎_elim
-    (λ w. rw (w.rows-is, w.trades-is, w.awards-is, w.counts-is, w.starts-is, w.words-is, w.credits-is, w.debits-is, w.sheet-is, w.last-is) (stepped_on _ _ _ _ _ _ _ _ _ w.in-Delivery.is _ (w.delivery-last.ensures _ _ h)))
+    (λ w. rw (w.lent-is, w.sheet-is, w.last-is) (stepped_on _ _ _ _ _ _ _ _ _ w.in-Delivery.is _ w.delivery-last.ensures.called))
     (⊎_elim
-    (λ w. rw (w.rows-is, w.trades-is, w.awards-is, w.counts-is, w.starts-is, w.words-is, w.credits-is, w.debits-is, w.sheet-is, w.last-is) (stepped_bare _ _ _ _ _ _ _ _ _ w.in-Attempt.is refl l (w.attempt-last.ensures (tables (turn c.before)) h)))
+    (λ w. rw (w.lent-is, w.sheet-is, w.last-is) (stepped_bare _ _ _ _ _ _ _ _ _ w.in-Attempt.is refl l (w.attempt-last.ensures (tables (turn c.before)) h)))
     (⊎_elim
-    (λ w. rw (w.rows-is, w.trades-is, w.awards-is, w.counts-is, w.starts-is, w.words-is, w.credits-is, w.debits-is, w.sheet-is, w.last-is) (stepped_bare _ _ _ _ _ _ _ _ _ w.in-Offer.is refl l (w.offer-last.ensures (tables (turn c.before)) h)))
+    (λ w. rw (w.lent-is, w.sheet-is, w.last-is) (stepped_bare _ _ _ _ _ _ _ _ _ w.in-Offer.is refl l (w.offer-last.ensures (tables (turn c.before)) h)))
     (⊎_elim
-    (λ w. rw (w.rows-is, w.trades-is, w.awards-is, w.counts-is, w.starts-is, w.words-is, w.credits-is, w.debits-is, w.sheet-is, w.last-is) (stepped_bare _ _ _ _ _ _ _ _ _ w.in-Award.is refl l (w.award-last.ensures (tables (turn c.before)) h)))
+    (λ w. rw (w.lent-is, w.sheet-is, w.last-is) (stepped_bare _ _ _ _ _ _ _ _ _ w.in-Award.is refl l (w.award-last.ensures (tables (turn c.before)) h)))
     (⊎_elim
-    (λ w. rw (w.rows-is, w.trades-is, w.awards-is, w.counts-is, w.starts-is, w.words-is, w.credits-is, w.debits-is, w.sheet-is, w.last-is) (stepped_on _ _ _ _ _ _ _ _ _ w.in-Confirm.is _ (w.confirm-last.ensures _ h)))
+    (λ w. rw (w.lent-is, w.sheet-is, w.last-is) (stepped_on _ _ _ _ _ _ _ _ _ w.in-Confirm.is _ w.confirm-last.ensures.called))
     (⊎_elim
-    (λ w. rw (w.rows-is, w.trades-is, w.awards-is, w.counts-is, w.starts-is, w.words-is, w.credits-is, w.debits-is, w.sheet-is, w.last-is) (stepped_on _ _ _ _ _ _ _ _ _ w.in-Cash.is _ (w.cash-last.ensures _ _ h)))
+    (λ w. rw (w.lent-is, w.sheet-is, w.last-is) (stepped_on _ _ _ _ _ _ _ _ _ w.in-Cash.is _ w.cash-last.ensures.called))
     (⊎_elim
-    (λ w. rw (w.rows-is, w.trades-is, w.awards-is, w.counts-is, w.starts-is, w.words-is, w.credits-is, w.debits-is, w.sheet-is, w.last-is) (stepped_bare _ _ _ _ _ _ _ _ _ w.in-Close.is refl l (w.close-last.ensures _ h)))
-    (λ w. rw (w.rows-is, w.trades-is, w.awards-is, w.counts-is, w.starts-is, w.words-is, w.credits-is, w.debits-is, w.sheet-is, w.last-is) (stepped_on _ _ _ _ _ _ _ _ _ w.in-PairOff.is _ (w.pair_off-last.ensures _ _ _ h)))))))))))
+    (λ w. rw (w.lent-is, w.sheet-is, w.last-is) (stepped_bare _ _ _ _ _ _ _ _ _ w.in-Close.is refl l w.close-last.ensures.called))
+    (λ w. rw (w.lent-is, w.sheet-is, w.last-is) (stepped_on _ _ _ _ _ _ _ _ _ w.in-PairOff.is _ w.pair_off-last.ensures.called))))))))))
     c.match-event.branch-raw
 
 pub overflow_add-next : goal.overflow_add-next
@@ -153,7 +138,7 @@ loop-next-preserved c =
     let k = turn c.before.before.before.before.before.before in
     let d = stepped c.before.before.before.before.before in
     let inside : k.loop-next.next < length (events_of k.args.file.now) = omega (arith, k.events_in-count.ensures, c.loop-next-test.true) in (
-      one_reached _ _ _ _ k.loop-next.next _ _ _ _ c.match-event.last.core _ (numbers c.match-event.rows c.match-event.trades c.match-event.awards c.match-event.counts c.match-event.starts c.match-event.words (ledger_of c.match-event.credits c.match-event.debits)) c.event_at-event.result _ k.loop-next.used _ k.loop-next.invariant.0
+      one_reached _ _ _ _ k.loop-next.next _ _ _ _ c.match-event.last.core _ c.match-event.lent c.event_at-event.result _ k.loop-next.used _ k.loop-next.invariant.0
           inside c.event_at-event.ensures refl (room_taken c.before.before.before.before.before.before.before) (shown _ _ _ _ _ _ _ _ _ _ _ _ _ (room_lent c.before.before.before.before.before.before.before) d c.answer_lines-used.ensures),
       d.places,
       more_filled _ _ _ _ k.loop-next.next c.event_at-event.result k.args.sheet.now _ _ k.loop-next.invariant.0.low inside c.event_at-event.ensures k.loop-next.invariant.0.played'.book k.loop-next.invariant.2 d.filled,
@@ -165,8 +150,8 @@ shape_of-page c = showing.same_length _ _ _ _ _ _ _ _ _ _ c.loop-next.invariant.
 pub returns : goal.returns
 returns c =
     let h = c.loop-next.invariant.0 in (
-      subst (λ (b : Core). PlayedOn c.args.file.now b (numbers c.args.rows.now c.args.trades.now c.args.awards.now c.args.counts.now c.args.starts.now c.args.words.now (ledger_of c.args.credits.now c.args.debits.now)) c.args.from c.args.page.now c.loop-next.page (tables c.before.before.before) (record { core = c.loop-next.last.core; next = c.loop-next.next; used = c.loop-next.used }))
-          (ap (λ (r : Answered). r.core) c.unplayed-last.ensures)
+      subst (λ (b : Core). PlayedOn c.args.file.now b c.args.lent.now c.args.from c.args.page.now c.loop-next.page (tables c.before.before.before) (record { core = c.loop-next.last.core; next = c.loop-next.next; used = c.loop-next.used }))
+          (ap (λ (r : Answered). r.core) c.done-last.ensures)
           (played_on _ _ _ _ _ _ _ _ _ _ h
           (λ there room.
           ⊎_elim
@@ -174,7 +159,7 @@ returns c =
           (λ w. omega (arith, c.events_in-count.ensures, w.loop-next-test.false))
           c.loop-next-test.branch-raw)),
       c.loop-next.invariant.1,
-      subst (λ (b : Core). c.loop-next.sheet ≡ sheet_after (book_of b (numbers c.args.rows.now c.args.trades.now c.args.awards.now c.args.counts.now c.args.starts.now c.args.words.now (ledger_of c.args.credits.now c.args.debits.now))) (calls_of (between c.args.file.now c.args.from c.loop-next.next)) c.args.sheet.now)
-          (ap (λ (r : Answered). r.core) c.unplayed-last.ensures)
+      subst (λ (b : Core). c.loop-next.sheet ≡ sheet_after (book_of b c.args.lent.now) (calls_of (between c.args.file.now c.args.from c.loop-next.next)) c.args.sheet.now)
+          (ap (λ (r : Answered). r.core) c.done-last.ensures)
           c.loop-next.invariant.2,
     )

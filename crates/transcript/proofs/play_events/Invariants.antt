@@ -11,8 +11,8 @@ use Rattle.files.specs.File.{events_of}
 use Rattle.plain.specs.Histories.{calls_of}
 use Rattle.machine.specs.declared.Answered.{Answered}
 use Rattle.machine.specs.declared.Core.{Core}
-use Rattle.ledger.specs.Posts.{ledger_of}
-use Rattle.machine.specs.View.{Numbers, numbers, book_of, Held}
+use Rattle.machine.specs.declared.Numbers.{Numbers}
+use Rattle.machine.specs.View.{book_of, Held}
 use Rattle.calls.specs.Stepping.{Stepped}
 use Rattle.calls.proofs.Stepping.{stepped_bare, stepped_on}
 use Rattle.report.specs.Pages.{lent}
@@ -24,9 +24,9 @@ use Rattle.transcript.proofs.play_events.Given as goal
 
 abbrev pub invariant-loop-next : goal.invariant-loop-next
 invariant-loop-next l =
-    (Reached l.file l.initial.last.core (numbers l.initial.rows l.initial.trades l.initial.awards l.initial.counts l.initial.starts l.initial.words (ledger_of l.initial.credits l.initial.debits)) l.from l.next l.initial.page l.page l.last.core (numbers l.rows l.trades l.awards l.counts l.starts l.words (ledger_of l.credits l.debits)) l.used)
+    (Reached l.file l.initial.last.core l.initial.lent l.from l.next l.initial.page l.page l.last.core l.lent l.used)
     × (length l.sheet ≡ SHEET_CELLS)
-    × (l.sheet ≡ sheet_after (book_of l.initial.last.core (numbers l.initial.rows l.initial.trades l.initial.awards l.initial.counts l.initial.starts l.initial.words (ledger_of l.initial.credits l.initial.debits))) (calls_of (between l.file l.from l.next)) l.initial.sheet)
+    × (l.sheet ≡ sheet_after (book_of l.initial.last.core l.initial.lent) (calls_of (between l.file l.from l.next)) l.initial.sheet)
 
 abbrev pub decreases-loop-next : goal.decreases-loop-next
 decreases-loop-next l = l.count - l.next

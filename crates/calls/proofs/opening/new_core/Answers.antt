@@ -10,9 +10,9 @@ returns c =
     opened _
     (record {
       day = refl;
-      prices = c.no_prices-prices.ensures;
-      auction = c.no_auction-auction.ensures;
-      marks = c.no_marks-marks.ensures;
+      prices = c.no_prices.ensures;
+      auction = c.no_auction.ensures;
+      marks = c.no_marks.ensures;
       late = refl;
       uses = (refl, refl, refl, refl);
     })

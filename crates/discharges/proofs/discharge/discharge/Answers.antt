@@ -1,38 +1,16 @@
 -- `discharges::discharge::discharge` meets its contract.
-use native.Mathlib.Omega.{arith}
 use mathlib.Core.Path.{refl}
-use borrow.Author.Rules.{rules}
 use Rattle.machine.proofs.Walking.{units_of, lowered_late, follows_after, starts_moved}
 use Rattle.discharges.proofs.discharge.discharge.Goals as goal
 
-pub start_of-start-requires : goal.start_of-start-requires
-start_of-start-requires c =
-    let f = c.requires.1.falling in
-    (f.follows.started.places, f.security)
-
-pub deal-walked-requires : goal.deal-walked-requires
-deal-walked-requires c =
-    let f = c.requires.1 in
-    record {
-      dealing = f.dealing;
-      some = f.falling.some;
-      rows_length = f.rows_length;
-      sheet_length = f.sheet_length;
-      within = rw c.start_of-start.ensures (f.falling.follows.started.within c.args.p.security);
-      closed = rw (c.start_of-start.ensures, ← f.falling.own) (f.falling.follows.started.closed _ f.falling.security.above);
-    }
-
 pub discharged-requires : goal.discharged-requires
 discharged-requires c =
-    let f = c.requires.1.falling in
+    let f = c.requires.falling in
     ((_, _, f.follows.failing, units_of _ _ _ _ _ _ _ _ _ _ f), f.security, f.member)
 
-pub bounds-starts-k : goal.bounds-starts-k
-bounds-starts-k c = omega (arith, c.requires.1.falling.security.below)
-
-pub returns : goal.returns
-returns c = λ late asks.
-    let f = asks.falling in
+pub returns-clause-dealt : goal.returns-clause-dealt
+returns-clause-dealt c =
+    let f = c.requires.falling in
     let low = c.deal-walked.ensures.dealt.positions in
     record {
       dealt = c.deal-walked.ensures.dealt;

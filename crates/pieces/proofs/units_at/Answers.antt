@@ -1,8 +1,0 @@
-use borrow.Author.Rules.{rules}
-use mathlib.Core.Path.{ap, sym}
-use Rattle.plain.specs.declared.Piece.{Piece}
-use Rattle.pieces.proofs.Cells.{piece_is}
-use Rattle.pieces.proofs.units_at.Goals as goal
-
-pub returns : goal.returns
-returns c = ap (λ (x : Piece). x.quantity) (sym (piece_is _ _ c.requires))

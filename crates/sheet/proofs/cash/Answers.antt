@@ -1,9 +1,0 @@
--- `sheet::cash` meets its contract: its pieces have room in the sheet, and fill its first places.
-use Rattle.sheet.proofs.Filling.{has_room, returned_on}
-use Rattle.sheet.proofs.cash.Goals as goal
-
-pub fill-requires : goal.fill-requires
-fill-requires c = (c.cash-done.ensures.pieces_fit, has_room _ _ _ _ c.cash-done.ensures)
-
-pub returns : goal.returns
-returns c = returned_on _ _ _ _ _ c.cash-done.ensures c.fill.ensures _ _ _ c.reported.ensures

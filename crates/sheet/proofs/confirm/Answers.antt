@@ -1,9 +1,0 @@
--- `sheet::confirm` meets its contract: its pieces have room in the sheet, and fill its first places.
-use Rattle.sheet.proofs.Filling.{has_room, returned_on}
-use Rattle.sheet.proofs.confirm.Goals as goal
-
-pub fill-requires : goal.fill-requires
-fill-requires c = (c.confirm-done.ensures.pieces_fit, has_room _ _ _ _ c.confirm-done.ensures)
-
-pub returns : goal.returns
-returns c = returned_on _ _ _ _ _ c.confirm-done.ensures c.fill.ensures _ _ _ c.reported.ensures
