@@ -1,7 +1,7 @@
 -- Document 01, 'Register and day': the book that opens on a register's bytes.
-use Rattle.std.specs.Prelude.{ℕ, ◌≡◌, List, Result, IfOk}
-use Rattle.laws.specs.Answers.{number_in}
-use Rattle.laws.specs.declared.Refusal.{Refusal}
+use Rattle.std.specs.Prelude.{ℕ, ◌≡◌, List, Result, IfOk, IfErr}
+use Rattle.laws.specs.Answers.{number_with}
+use Rattle.laws.specs.declared.TurnedDown.{TurnedDown}
 use Rattle.register.specs.Register.{register_read}
 use Rattle.plain.specs.Book.{opening_read, new}
 use Rattle.book.specs.declared.Book.{Book}
@@ -12,7 +12,9 @@ pub record Opens (bytes : List ℕ) (b : Book) : Type 0 where
   pub book : view b ≡ new (opening_read bytes)
   pub valid : Valid b
 
--- what opening answers to the bytes of a register: refusal 1 to 4, or such a book
-pub record OpenedOn (bytes : List ℕ) (r : Result Book Refusal) : Type 0 where
-  pub number : number_in r ≡ (register_read bytes).number
+-- what opening answers to the bytes of a register: such a book, or refusal 1 to 4. Where the bytes are refused the register read is the empty one, and the book of it
+-- stands beside the reason; it is not valid: no call takes it.
+pub record OpenedOn (bytes : List ℕ) (r : Result Book (TurnedDown Book)) : Type 0 where
+  pub number : number_with r ≡ (register_read bytes).number
   pub opened : IfOk r (Opens bytes)
+  pub empty : IfErr r (λ t. view t.value ≡ new (opening_read bytes))

@@ -7,7 +7,9 @@ ghost use Rattle.events.specs.declared.Event.TheVariants as event;
 ghost use Rattle.laws.specs.declared.Refusal.TheVariants.{SmallSheet};
 ghost use Rattle.plain.specs.Calls.{call, is_discharge};
 ghost use Rattle.plain.specs.Sound.{Places};
+ghost use Rattle.plain.specs.Book as plain;
 ghost use Rattle.machine.specs.View.{book_of, Held};
+ghost use Rattle.calls.specs.Opening.{NewlyHeld, OpensAs};
 ghost use Rattle.reading.specs.Reading.{position_answer, award_answer, price_answer, balance_answer};
 ghost use Rattle.book.specs.View.{view, Valid, Returned};
 ghost use Rattle.book.specs.Opening.{OpenedOn};
@@ -15,7 +17,7 @@ ghost use Rattle.book.specs.Stepping.{WithoutPieces, Stepped};
 
 use calls::{Core, Numbers};
 use events::{Attempt, Cash, Confirm, Delivery, Event, Offer, PairOff, Price, Trade};
-use laws::{BusinessDay, PLACES, Refusal};
+use laws::{BusinessDay, PLACES, Refusal, TurnedDown};
 use plain::{Award, Latest, Ledger, Position};
 use rules::Amount;
 use tables::Pieces;
@@ -67,15 +69,28 @@ impl Book {
         Book { core, lent }
     }
 
-    // The new book on a register's bytes.
-    pub fn new(bytes: &[u8]) -> Result<Book, Refusal>
-        ensures { OpenedOn bytes.now result }
+    // The book of a core that no call was made on yet.
+    pub fn unplayed(core: Core) -> Book
+        ensures view { (b : plain.Book) → OpensAs core b → view result ≡ b }
+        ensures valid { NewlyHeld core → Valid result }
     {
-        let core = calls::open_core(bytes)?;
-        Ok(Book {
+        Book {
             core,
             lent: calls::new_numbers(),
-        })
+        }
+    }
+
+    // The new book on a register's bytes; where they are refused, that on the empty register, beside the reason.
+    pub fn new(bytes: &[u8]) -> Result<Book, TurnedDown<Book>>
+        ensures { OpenedOn bytes.now result }
+    {
+        match calls::open_core(bytes) {
+            Ok(core) => Ok(Book::unplayed(core)),
+            Err(turned_down) => Err(TurnedDown {
+                refusal: turned_down.refusal,
+                value: Book::unplayed(turned_down.value),
+            }),
+        }
     }
 
     pub fn day(&self) -> BusinessDay

@@ -1,8 +1,8 @@
 -- Document 01, 'Register and day': the book that opens on a register's bytes.
-use Rattle.std.specs.Prelude.{ℕ, ◌≡◌, List, Result, IfOk, replicate}
-use Rattle.laws.specs.Answers.{number_in}
+use Rattle.std.specs.Prelude.{ℕ, ◌≡◌, List, Result, IfOk, IfErr, replicate}
+use Rattle.laws.specs.Answers.{number_with}
 use Rattle.laws.specs.Limits.{ACCOUNTS, AWARD_CELLS, COUNT_CELLS, POSITION_CELLS, SECURITIES, TRADE_CELLS}
-use Rattle.laws.specs.declared.Refusal.{Refusal}
+use Rattle.laws.specs.declared.TurnedDown.{TurnedDown}
 use Rattle.register.specs.Register.{register_read}
 use Rattle.plain.specs.Book.{Book, opening_read, new}
 use Rattle.machine.specs.declared.Core.{Core}
@@ -27,7 +27,9 @@ pub record Opens (bytes : List ℕ) (b : Core) : Type 0 where
   pub book : OpensAs b (new (opening_read bytes))
   pub held : NewlyHeld b
 
--- what opening answers to the bytes of a register: refusal 1 to 4, or such a core
-pub record OpenedOn (bytes : List ℕ) (r : Result Core Refusal) : Type 0 where
-  pub number : number_in r ≡ (register_read bytes).number
+-- what opening answers to the bytes of a register: such a core, or refusal 1 to 4. Where the bytes are refused the register read is the empty one, and the core of it
+-- stands beside the reason; it is not held: no call takes it.
+pub record OpenedOn (bytes : List ℕ) (r : Result Core (TurnedDown Core)) : Type 0 where
+  pub number : number_with r ≡ (register_read bytes).number
   pub opened : IfOk r (Opens bytes)
+  pub empty : IfErr r (λ t. OpensAs t.value (new (opening_read bytes)))

@@ -10,8 +10,8 @@ ghost use Rattle.machine.specs.View.{book_of, Held, Blank};
 
 use events::Offer;
 use laws::{
-    ACCOUNTS, ATTEMPTS, AWARD_CELLS, BusinessDay, COUNT_CELLS, OFFERS, POSITION_CELLS, Refusal,
-    SECURITIES, TRADE_CELLS,
+    ACCOUNTS, ATTEMPTS, AWARD_CELLS, BusinessDay, COUNT_CELLS, OFFERS, POSITION_CELLS, SECURITIES,
+    TRADE_CELLS, TurnedDown,
 };
 use machine::{Core, Numbers};
 use plain::{Ledger, Opening};
@@ -90,10 +90,17 @@ pub fn new_numbers() -> Numbers
     }
 }
 
-// A core of the new book on a register's bytes.
-pub fn open_core(bytes: &[u8]) -> Result<Core, Refusal>
+// The core of the new book on a register's bytes; where they are refused, of that on the empty register, beside the reason.
+pub fn open_core(bytes: &[u8]) -> Result<Core, TurnedDown<Core>>
     ensures { OpenedOn bytes.now result }
 {
-    let register = register::read_register(bytes)?;
-    Ok(new_core(Opening { register }))
+    match register::read_register(bytes) {
+        Ok(register) => Ok(new_core(Opening { register })),
+        Err(turned_down) => Err(TurnedDown {
+            refusal: turned_down.refusal,
+            value: new_core(Opening {
+                register: turned_down.value,
+            }),
+        }),
+    }
 }

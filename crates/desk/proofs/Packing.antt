@@ -1,8 +1,8 @@
 -- A call's answer as one number, by its refusal number.
-use Rattle.std.proofs.Common.{ℕ, zero, suc, ◌≤◌, ◌≡◌, ◌≢◌, refl, sym, ap, ap₂, ◌∙◌, arith, List, Result, Ok, Err, IsOkAnd, MatchResult}
-use Rattle.laws.specs.declared.Refusal.{Refusal}
+use Rattle.std.proofs.Common.{ℕ, zero, suc, ◌≤◌, ◌≡◌, refl, ap, ap₂, ◌∙◌, arith, List, Result, Err}
+use Rattle.laws.specs.declared.TurnedDown.{TurnedDown}
 use Rattle.register.specs.declared.Register.{Register}
-use Rattle.laws.specs.Answers.{REFUSALS, answer, answer_number, number_in, quantity_of}
+use Rattle.laws.specs.Answers.{REFUSALS, answer, answer_number, answer_with, number_answered, number_in, number_some, number_with, quantity_of, value_answered, value_in}
 use Rattle.laws.specs.Refusals.{accepted, choose_most}
 use Rattle.laws.specs.WordLaws.{nonzero}
 use Rattle.files.specs.File.{refusal, copying_refusal}
@@ -23,21 +23,22 @@ copying_most bytes room =
     choose_most (nonzero n) REFUSALS n _ (omega (arith, file_most bytes))
     (choose_most _ REFUSALS 5 0 (omega arith) (omega arith))
 
--- a register's answer with its count in place of it
-module _ (counts : Register → ℕ → Type 0) (is_count : (x : Register) (k : ℕ) → counts x k → k ≡ x.count) where
-  counted : (n : ℕ) (x : Register) (m : Result ℕ Refusal) → n ≤ REFUSALS → (n ≢ 0 → x.count ≡ 0) → MatchResult (answer n x) (λ r. IsOkAnd m (counts r)) (λ e. m ≡ Err e) → packed (number_in m) (quantity_of m) ≡ packed n x.count
-  counted zero x (Ok k) h none same = ap (packed 0) (is_count x k same)
-  counted zero x (Err r) h none same = absurd same
-  counted (suc n) x m h none same =
-      ap (λ (r : Result ℕ Refusal). packed (number_in r) (quantity_of r)) same
-      ∙ ap₂ packed (answer_number (suc n) x h) (sym (none (λ z. omega (arith, z))))
+-- a register's answer, with the count of the register that is read
+module _ (bytes : List ℕ) where
+  read_number : (r : Result Register (TurnedDown Register)) → r ≡ answer_with (register_read bytes).number (register_read bytes).register → number_with r ≡ (register_read bytes).number
+  read_number r e =
+      ap number_with e ∙ number_answered (register_read bytes).number (register_read bytes).register (omega (arith, read_most bytes))
+
+  pub register_packed : (r : Result Register (TurnedDown Register)) → r ≡ answer_with (register_read bytes).number (register_read bytes).register
+      → packed (number_with r) (value_in r).count ≡ packed (register_read bytes).number (register_read bytes).register.count
+  register_packed r e =
+      ap₂ packed (read_number r e)
+      (ap (λ (x : Register). x.count) (ap value_in e ∙ value_answered (register_read bytes).number (register_read bytes).register))
 
   -- the count of a register that is refused is 0
-  none_counted : (bytes : List ℕ) → (register_read bytes).number ≢ 0 → (register_read bytes).register.count ≡ 0
+  pub none_counted : (t : TurnedDown Register) → Err t ≡ answer_with (register_read bytes).number (register_read bytes).register → t.value.count ≡ 0
   unfolding register_read empty_register
-  none_counted bytes h = ap (λ (x : Register). x.count) (read_refused bytes h)
-
-  pub register_packed : (bytes : List ℕ) (r : Result Register Refusal) (m : Result ℕ Refusal) → r ≡ answer (register_read bytes).number (register_read bytes).register → MatchResult r (λ x. IsOkAnd m (counts x)) (λ e. m ≡ Err e)
-      → packed (number_in m) (quantity_of m) ≡ packed (register_read bytes).number (register_read bytes).register.count
-  register_packed bytes r m e same =
-      counted (register_read bytes).number (register_read bytes).register m (omega (arith, read_most bytes)) (none_counted bytes) (rw e at same)
+  none_counted t e =
+      let refused = λ (z : (register_read bytes).number ≡ 0). number_some t.refusal (read_number (Err t) e ∙ z) in
+      ap (λ (x : Register). x.count)
+      (ap value_in e ∙ value_answered (register_read bytes).number (register_read bytes).register ∙ read_refused bytes refused)

@@ -18,7 +18,10 @@ ghost use Rattle.page.specs.Answer.{page_answer, page_after};
 pub extern "C" fn desk_register(bytes: &[u8]) -> u64
     ensures { result ≡ definition.packed (register_read bytes.now).number (register_read bytes.now).register.count }
 {
-    answers::answered(register::read_register(bytes).map(|register| u32::from(register.count)))
+    match register::read_register(bytes) {
+        Ok(register) => answers::answered(Ok(u32::from(register.count))),
+        Err(turned_down) => answers::answered(Err(turned_down.refusal)),
+    }
 }
 
 // Refusals 27 to 30, or 0 with the date of a business day. Dates are numbers yyyymmdd, holidays four bytes each, little-endian.

@@ -7,6 +7,7 @@ use Rattle.laws.specs.Lists.{every, range}
 use Rattle.laws.specs.Places.{every_range}
 use Rattle.laws.specs.Refusals.{Reason, first, choose_most}
 use Rattle.laws.specs.declared.Refusal.{Refusal}
+use Rattle.laws.specs.declared.TurnedDown.{TurnedDown}
 use Rattle.laws.specs.declared.Refusal.TheVariants.{WrongSize, WrongClass, WrongIsin, RepeatedIsin, FileShape, UnknownKind, SpareByte, SmallSheet, NoMember, NotRegistered, NotThere, WrongQuantity, WrongPrice, SellerIsBuyer, TradesFull, Long, OutsideWindow, Auction, NoPrice, Attempted, Failing, AboveCeiling, OffersFull, NotEnough, Confirmed, NoNextDay, InvalidDate, WrongHolidays, NoBusinessDay, After2099, ShortPage, OldPrice, WrongKind, NotPairable}
 
 -- the reasons in the order of their numbers, the first of which is 1
@@ -216,6 +217,39 @@ module _ {T : Type 0} where
   pub done_value : (n : ℕ) (v x : T) → Ok x ≡ answer n v → x ≡ v
   done_value zero v x e = cc
   done_value (suc n) v x e = absurd (number_some (refusal_of (suc n)) (sym (ap number_in e)))
+
+-- a value may be handed out where the call is turned down too, beside the reason
+module _ {T : Type 0} where
+  -- the number of such an answer, 0 where nothing turns the call down, and the value that it hands out
+  abbrev pub number_with : Result T (TurnedDown T) → ℕ
+  number_with (Ok v) = 0
+  number_with (Err e) = number e.refusal
+
+  abbrev pub value_in : Result T (TurnedDown T) → T
+  value_in (Ok v) = v
+  value_in (Err e) = e.value
+
+  -- the value where the refusal number is 0, else the reason with that number and the value beside it
+  abbrev pub answer_with : ℕ → T → Result T (TurnedDown T)
+  answer_with zero v = Ok v
+  answer_with (suc n) v = Err (record { refusal = refusal_of (suc n); value = v })
+
+  pub number_answered : (n : ℕ) (v : T) → n ≤ REFUSALS → number_with (answer_with n v) ≡ n
+  number_answered zero v h = refl
+  number_answered (suc n) v h = number_listed (suc n) (omega arith) h
+
+  pub value_answered : (n : ℕ) (v : T) → value_in (answer_with n v) ≡ v
+  value_answered zero v = refl
+  value_answered (suc n) v = refl
+
+  pub turned_down_with : (n : ℕ) (v : T) (r : Refusal) → number r ≡ n → Err (record { refusal = r; value = v }) ≡ answer_with n v
+  turned_down_with zero v r e = absurd (number_some r e)
+  turned_down_with (suc n) v r e =
+      ap (λ (s : Refusal). Err (record { refusal = s; value = v })) (sym (number_again r) ∙ ap refusal_of e)
+
+  pub answered_with : (n : ℕ) (v : T) → n ≡ 0 → Ok v ≡ answer_with n v
+  answered_with zero v e = refl
+  answered_with (suc n) v e = absurd (omega (arith, e))
 
 -- a call of the book answers a quantity, or why it is turned down
 abbrev pub Outcome : Type 0

@@ -98,6 +98,22 @@ impl From<Refusal> for u8 {
     }
 }
 
+// Why a call that makes a value turns its argument down, with the value that it hands out all the same.
+#[derive(Clone, Copy)]
+pub struct TurnedDown<T> {
+    pub refusal: Refusal,
+    pub value: T,
+}
+
+// The reason alone, which `?` passes on where the value is not wanted.
+impl<T: Drop> From<TurnedDown<T>> for Refusal {
+    ghost from_gives = { λ turned_down refusal. refusal ≡ turned_down.refusal };
+
+    fn from(turned_down: TurnedDown<T>) -> Refusal {
+        turned_down.refusal
+    }
+}
+
 // The limits of document 01, as `specs/Limits.antt` has them.
 pub const MEMBERS: u8 = 63;
 

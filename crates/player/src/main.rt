@@ -98,7 +98,7 @@ fn print_played(file: &[u8], core: Core)
 fn print_transcript(input: &[u8]) {
     match transcript::start(input) {
         Ok(started) => print_played(&input[started.file..], started.core),
-        Err(refusal) => print_refusal(refusal),
+        Err(turned_down) => print_refusal(turned_down.refusal),
     }
 }
 

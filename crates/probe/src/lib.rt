@@ -119,7 +119,7 @@ pub extern "C" fn probe_last_call(input: &[u8], closes: u32, sheet: u32) -> u64
 {
     let answer = match transcript::start(input) {
         Ok(started) => last_answer(started.core, closes, &input[started.file..], sheet as usize),
-        Err(refusal) => Err(refusal),
+        Err(turned_down) => Err(turned_down.refusal),
     };
     answers::answered(answer)
 }

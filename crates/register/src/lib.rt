@@ -7,11 +7,11 @@ ghost use Rattle.laws.specs.Lists.{every};
 ghost use Rattle.laws.specs.Parts;
 ghost use Rattle.laws.specs.Places;
 ghost use Rattle.laws.specs.Refusals.{first};
-ghost use Rattle.laws.specs.Answers.{answer, number_in};
+ghost use Rattle.laws.specs.Answers.{answer_with, number_in};
 ghost use Rattle.register.specs.Isin;
 ghost use Rattle.register.specs.Register as spec;
 
-use laws::{Refusal, SECURITIES};
+use laws::{Refusal, SECURITIES, TurnedDown};
 
 // Securities are numbered from 1. The first `count` classes and the first 12 times `count` bytes of `isins` are the
 // register's; the others are 0.
@@ -226,9 +226,26 @@ fn register_of(bytes: &[u8]) -> Register
     }
 }
 
-pub fn read_register(bytes: &[u8]) -> Result<Register, Refusal>
-    ensures { result ≡ answer (spec.register_read bytes.now).number (spec.register_read bytes.now).register }
+#[tactic(auto, unfolding(crate::specs::Register::zeros, crate::specs::Register::empty_register))]
+fn empty_register() -> Register
+    ensures { result ≡ spec.empty_register }
 {
-    register_refusal(bytes)?;
-    Ok(register_of(bytes))
+    Register {
+        count: 0,
+        classes: [0; SECURITIES],
+        isins: [0; 384],
+    }
+}
+
+// The register of the bytes; where they are refused, the empty one beside the reason.
+pub fn read_register(bytes: &[u8]) -> Result<Register, TurnedDown<Register>>
+    ensures { result ≡ answer_with (spec.register_read bytes.now).number (spec.register_read bytes.now).register }
+{
+    match register_refusal(bytes) {
+        Ok(()) => Ok(register_of(bytes)),
+        Err(refusal) => Err(TurnedDown {
+            refusal,
+            value: empty_register(),
+        }),
+    }
 }

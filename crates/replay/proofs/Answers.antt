@@ -1,7 +1,8 @@
 -- What is answered: a refusal of the register or the file, or the book before and after the events.
 use Rattle.std.proofs.Common.{ℕ, ◌≡◌, refl, ap, sym, ◌∙◌, List, Ok, Err, Result, ne_eqb}
-use Rattle.laws.specs.Answers.{number, number_in, number_some}
+use Rattle.laws.specs.Answers.{number, number_some}
 use Rattle.laws.specs.declared.Refusal.{Refusal}
+use Rattle.laws.specs.declared.TurnedDown.{TurnedDown}
 use Rattle.register.specs.Register.{register_read}
 use Rattle.files.specs.File.{refusal, events_of}
 use Rattle.plain.specs.Book.{opening_read, new}
@@ -16,9 +17,14 @@ use Rattle.history.specs.Runs.{stand_of, RunsTo, in_place}
 use Rattle.replay.specs.Replay.{replay_refusal, ReadyFor, ReplayedFrom, Replayed, deciding}
 
 -- the register is refused, whatever the file is
-pub refused_register : (register file : List ℕ) (r : Refusal) → number r ≡ (register_read register).number → ReadyFor register file (Err r)
+pub refused_register : (register file : List ℕ) (t : TurnedDown Core) → OpenedOn register (Err t) → ReadyFor register file (Err t)
 unfolding replay_refusal
-refused_register register file r e = record { number = rw (← e, ne_eqb (number r) 0 (number_some r)); opened = tt }
+refused_register register file t opened =
+    record {
+      number = rw (← opened.number, ne_eqb (number t.refusal) 0 (number_some t.refusal));
+      opened = tt;
+      unread = record { book = opened.empty; opened = (Err t, opened, refl) };
+    }
 
 -- it is not: the file decides
 module _ (register file : List ℕ) (b : Core) (opened : OpenedOn register (Ok b)) where
@@ -26,15 +32,21 @@ module _ (register file : List ℕ) (b : Core) (opened : OpenedOn register (Ok b
   unfolding replay_refusal
   file_decides = rw (← opened.number) (sym (deciding (refusal file)))
 
-  pub refused_file : (r : Refusal) → number r ≡ refusal file → ReadyFor register file (Err r)
-  refused_file r e = record { number = e ∙ sym file_decides; opened = tt }
+  pub refused_file : (r : Refusal) → number r ≡ refusal file → ReadyFor register file (Err (record { refusal = r; value = b }))
+  refused_file r e =
+      record {
+        number = e ∙ sym file_decides;
+        opened = tt;
+        unread = record { book = opened.opened.book; opened = (Ok b, opened, refl) };
+      }
 
   pub passed : 0 ≡ refusal file → ReadyFor register file (Ok b)
-  passed e = record { number = e ∙ sym file_decides; opened = opened }
+  passed e = record { number = e ∙ sym file_decides; opened = opened; unread = tt }
 
 -- the events are played, or none is
-pub none_replayed : (register file : List ℕ) (r : Refusal) → ReadyFor register file (Err r) → ReplayedFrom register file (Err r)
-none_replayed register file r ready = record { number = ready.number; replayed = tt }
+pub none_replayed : (register file : List ℕ) (t : TurnedDown Core) → ReadyFor register file (Err t) → (b : Book) → view b ≡ new (opening_read register)
+    → ReplayedFrom register file (Err (record { refusal = t.refusal; value = b }))
+none_replayed register file t ready b same = record { number = ready.number; replayed = tt; unplayed = same }
 
 pub all_replayed : (register file : List ℕ) (b : Core) → ReadyFor register file (Ok b) → (after : Book) → view after ≡ run (new (opening_read register)) (calls_of (events_of file)) → Valid after
     → ((a : Numbers) × (Blank a) × (RunsTo (record { core = b; numbers = a }) (calls_of (events_of file)) (stand_of after)))
@@ -48,4 +60,5 @@ all_replayed register file b ready after same valid runs =
             valid = valid;
             played = record { start = record { core = b; numbers = runs.0 }; begins = in_place ready.opened runs.1; runs = runs.2 };
           };
+      unplayed = tt;
     }

@@ -1,9 +1,9 @@
 -- Document 01, 'Event files and the player': a file of events played on a new book.
-use Rattle.std.specs.Prelude.{ℕ, zero, suc, ◌≡◌, refl, List, [], ◌∷◌, Result, Ok, IfOk}
+use Rattle.std.specs.Prelude.{ℕ, zero, suc, ◌≡◌, refl, List, [], ◌∷◌, Result, Ok, IfOk, IfErr}
 use Rattle.std.proofs.Common.{arith, ◌∙◌, ne_eqb}
-use Rattle.laws.specs.Answers.{number_in}
+use Rattle.laws.specs.Answers.{number_with, value_in}
 use Rattle.laws.specs.Refusals.{◌⇒◌, choose, first}
-use Rattle.laws.specs.declared.Refusal.{Refusal}
+use Rattle.laws.specs.declared.TurnedDown.{TurnedDown}
 use Rattle.laws.specs.WordLaws.{nonzero}
 use Rattle.register.specs.Register.{register_read}
 use Rattle.events.specs.declared.Event.{Event}
@@ -13,7 +13,7 @@ use Rattle.plain.specs.Calls.{Call}
 use Rattle.plain.specs.Histories.{calls_of, next, pieces, run}
 use Rattle.pieces.specs.Sheet.{sheet_with}
 use Rattle.machine.specs.declared.Core.{Core}
-use Rattle.calls.specs.Opening.{OpenedOn}
+use Rattle.calls.specs.Opening.{OpenedOn, OpensAs}
 use Rattle.machine.specs.declared.Numbers.{Numbers}
 use Rattle.machine.specs.View.{book_of, Held}
 use Rattle.book.specs.declared.Book as whole
@@ -28,10 +28,16 @@ replay_refusal register file =
     ∷ (nonzero (refusal file) ⇒ refusal file)
     ∷ [])
 
--- what is answered before any event is played: the refusal, or the core that opening answered to the register
-pub record ReadyFor (register file : List ℕ) (r : Result Core Refusal) : Type 0 where
-  pub number : number_in r ≡ replay_refusal register file
+-- the core that opening answered to a register, refused or not, and the book that it stands for. Where the file alone is refused calls may be made on it.
+pub record OpenedCore (register : List ℕ) (core : Core) : Type 0 where
+  pub book : OpensAs core (new (opening_read register))
+  pub opened : ((o : Result Core (TurnedDown Core)) × (OpenedOn register o) × (value_in o ≡ core))
+
+-- what is answered before any event is played: the core that opening answered to the register, or the refusal, with that core beside it
+pub record ReadyFor (register file : List ℕ) (r : Result Core (TurnedDown Core)) : Type 0 where
+  pub number : number_with r ≡ replay_refusal register file
   pub opened : IfOk r (λ core. OpenedOn register (Ok core))
+  pub unread : IfErr r (λ t. OpenedCore register t.value)
 
 -- what playing some events on a core with its numbers leaves: the calls of the events were made, one after the other
 pub record PlayedUpTo (b : Core) (a : Numbers) (events : List Event) (after : Core) (z : Numbers) : Type 0 where
@@ -57,10 +63,11 @@ pub record Replayed (register file : List ℕ) (b : whole.Book) : Type 0 where
   pub valid : Valid b
   pub played : PlayedFrom register (events_of file) (stand_of b)
 
--- what replaying answers: the refusal, or such a book
-pub record ReplayedFrom (register file : List ℕ) (r : Result whole.Book Refusal) : Type 0 where
-  pub number : number_in r ≡ replay_refusal register file
+-- what replaying answers: such a book, or the refusal, with the new book after no event beside it
+pub record ReplayedFrom (register file : List ℕ) (r : Result whole.Book (TurnedDown whole.Book)) : Type 0 where
+  pub number : number_with r ≡ replay_refusal register file
   pub replayed : IfOk r (Replayed register file)
+  pub unplayed : IfErr r (λ t. view t.value ≡ new (opening_read register))
 
 -- a number that refuses where it is not 0 decides
 pub deciding : (n : ℕ) → n ≡ first ((nonzero n ⇒ n) ∷ [])

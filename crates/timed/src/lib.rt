@@ -71,7 +71,9 @@ pub extern "C" fn timed_play(input: &[u8], page: &mut [u8]) -> u64
 {
     let started = match transcript::start(input) {
         Ok(started) => started,
-        Err(refusal) => return report::refusal_line(page, u8::from(refusal)) as u64,
+        Err(turned_down) => {
+            return report::refusal_line(page, u8::from(turned_down.refusal)) as u64;
+        }
     };
     let file = &input[started.file..];
     let count = files::events_in(file) as usize;

@@ -6,7 +6,7 @@ use mathlib.Core.List.{List}
 use lib.ListN.{length, take, drop, length-drop}
 use lib.Seq.{take_all}
 use Rattle.std.proofs.Common.{Result, Ok, Err}
-use Rattle.laws.specs.declared.Refusal.{Refusal}
+use Rattle.laws.specs.declared.TurnedDown.{TurnedDown}
 use Rattle.machine.specs.declared.Core.{Core}
 use Rattle.replay.specs.Replay.{ReadyFor}
 use Rattle.transcript.specs.Parts.{take_min, drop_min}
@@ -27,16 +27,19 @@ module _ (input : List ℕ) (end : ℕ) (is : end ≡ min (register_length input
       ∙ ap (λ (k : ℕ). drop k input) is
       ∙ drop_min (register_length input) input
 
-  checked : (r : Result Core Refusal) → ReadyFor (take end input) (take (length input - end) (drop end input)) r → ReadyFor (register_in input) (file_in input) r
+  checked : (r : Result Core (TurnedDown Core)) → ReadyFor (take end input) (take (length input - end) (drop end input)) r → ReadyFor (register_in input) (file_in input) r
   checked r k =
       subst (λ (l : List ℕ). ReadyFor (register_in input) l r) back (subst (λ (l : List ℕ). ReadyFor l (take (length input - end) (drop end input)) r) front k)
 
-  pub refused : (r : Refusal) → ReadyFor (take end input) (take (length input - end) (drop end input)) (Err r) → StartedOn input (Err r)
+  pub refused : (t : TurnedDown Core) → ReadyFor (take end input) (take (length input - end) (drop end input)) (Err t)
+      → StartedOn input (Err (record { refusal = t.refusal; value = record { file = end; core = t.value } }))
   unfolding input_refusal
-  refused r k = record { number = (checked (Err r) k).number; ready = tt }
+  refused t k =
+      let same = checked (Err t) k in
+      record { number = same.number; ready = tt; unready = record { file = is; unread = same.unread } }
 
   pub started : (b : Core) → ReadyFor (take end input) (take (length input - end) (drop end input)) (Ok b) → StartedOn input (Ok (record { file = end; core = b }))
   unfolding input_refusal
   started b k =
       let same = checked (Ok b) k in
-      record { number = same.number; ready = record { file = is; opened = same.opened } }
+      record { number = same.number; ready = record { file = is; opened = same.opened }; unready = tt }

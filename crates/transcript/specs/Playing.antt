@@ -1,14 +1,14 @@
 -- What the functions that write the transcript's blocks answer.
-use Rattle.std.specs.Prelude.{ℕ, ◌+◌, ◌-◌, ◌*◌, ◌≤◌, ◌<◌, min, max, ◌≡◌, List, length, take, drop, Result, Ok, IfOk}
-use Rattle.laws.specs.Answers.{number_in}
-use Rattle.laws.specs.declared.Refusal.{Refusal}
+use Rattle.std.specs.Prelude.{ℕ, ◌+◌, ◌-◌, ◌*◌, ◌≤◌, ◌<◌, min, max, ◌≡◌, List, length, take, drop, Result, Ok, IfOk, IfErr}
+use Rattle.laws.specs.Answers.{number_with}
+use Rattle.laws.specs.declared.TurnedDown.{TurnedDown}
 use Rattle.events.specs.declared.Event.{Event}
 use Rattle.files.specs.File.{events_of}
 use Rattle.machine.specs.declared.Core.{Core}
 use Rattle.calls.specs.Opening.{OpenedOn}
 use Rattle.machine.specs.declared.Numbers.{Numbers}
 use Rattle.machine.specs.View.{book_of}
-use Rattle.replay.specs.Replay.{PlayedUpTo}
+use Rattle.replay.specs.Replay.{OpenedCore, PlayedUpTo}
 use Rattle.report.specs.Lines.{LINE}
 use Rattle.report.specs.Pages.{Put}
 use Rattle.transcript.specs.declared.Started.{Started}
@@ -20,10 +20,16 @@ pub record Ready (input : List ℕ) (s : Started) : Type 0 where
   pub file : s.file ≡ min (register_length input) (length input)
   pub opened : OpenedOn (register_in input) (Ok s.core)
 
--- what is answered before the first event: the refusal, or that
-pub record StartedOn (input : List ℕ) (r : Result Started Refusal) : Type 0 where
-  pub number : number_in r ≡ input_refusal input
+-- one that is refused: the same, of a register that may be refused
+pub record Unready (input : List ℕ) (s : Started) : Type 0 where
+  pub file : s.file ≡ min (register_length input) (length input)
+  pub unread : OpenedCore (register_in input) s.core
+
+-- what is answered before the first event: the one, or the refusal with the other beside it
+pub record StartedOn (input : List ℕ) (r : Result Started (TurnedDown Started)) : Type 0 where
+  pub number : number_with r ≡ input_refusal input
   pub ready : IfOk r (Ready input)
+  pub unready : IfErr r (λ t. Unready input t.value)
 
 -- the most bytes that an event prints: its line, and those of 1,024 pieces
 abbrev pub BLOCK : ℕ

@@ -16,7 +16,7 @@ ghost use Rattle.transcript.specs.Playing.{StartedOn, BLOCK, END, PlayedOn, betw
 
 use calls::{Core, Numbers};
 use events::Event;
-use laws::{POSITION_CELLS, Refusal, SHEET_CELLS};
+use laws::{POSITION_CELLS, Refusal, SHEET_CELLS, TurnedDown};
 use plain::Ledger;
 
 // Where an input's file begins, and the core of its register's new book.
@@ -55,12 +55,22 @@ fn register_end(input: &[u8]) -> usize
     length.min(2 + 13 * count)
 }
 
-pub fn start(input: &[u8]) -> Result<Started, Refusal>
+// Where the input is refused the same stands beside the reason, of the register that was read. Not inlined, as `replay::ready`.
+#[inline(never)]
+pub fn start(input: &[u8]) -> Result<Started, TurnedDown<Started>>
     ensures { StartedOn input.now result }
 {
     let file = register_end(input);
-    let core = replay::ready(&input[..file], &input[file..])?;
-    Ok(Started { file, core })
+    match replay::ready(&input[..file], &input[file..]) {
+        Ok(core) => Ok(Started { file, core }),
+        Err(turned_down) => Err(TurnedDown {
+            refusal: turned_down.refusal,
+            value: Started {
+                file,
+                core: turned_down.value,
+            },
+        }),
+    }
 }
 
 // The number of an outcome, 0 where nothing turns the call down.

@@ -1,18 +1,12 @@
 -- `book::Book::new` meets its contract.
-use Rattle.std.proofs.Common.{rules}
-use Rattle.std.proofs.lemmas.Result.{err_from_is_err_and}
-use Rattle.laws.specs.Answers.{number_in}
-use Rattle.book.specs.View.{view}
 use Rattle.book.proofs.Book.new.Goals as goal
 
-pub returns-in_err-core : goal.returns-in_err-core
-returns-in_err-core c =
-    let p = err_from_is_err_and c.from_residual.result c.from_residual.ensures.1 in
-    rw (p.1, p.2) (record { number = c.in_err-core.ensures.number; opened = tt })
+pub returns-in-Ok : goal.returns-in-Ok
+returns-in-Ok c =
+    let o = c.in-Ok.ensures in
+    record { number = o.number; opened = record { book = c.unplayed.ensures.view _ o.opened.book; valid = c.unplayed.ensures.valid o.opened.held }; empty = tt }
 
-pub returns : goal.returns
-unfolding view
-returns c =
-    let o = c.in_ok-core.ensures in
-    let blank = c.new_numbers.ensures.blank in
-    record { number = o.number; opened = record { book = o.opened.book _ blank; valid = record { held = o.opened.held _ blank } } }
+pub returns-in-Err : goal.returns-in-Err
+returns-in-Err c =
+    let o = c.in-Err.ensures in
+    record { number = o.number; opened = tt; empty = c.unplayed-in-Err.ensures.view _ o.empty }

@@ -1,28 +1,33 @@
 -- `calls::opening::open_core` meets its contract.
-use Rattle.std.proofs.Common.{rules, ap, sym, ◌∙◌, arith, subst}
-use Rattle.std.proofs.lemmas.Result.{err_from_is_err_and}
-use Rattle.laws.specs.Answers.{refused_number, done_number, done_value}
+use Rattle.std.proofs.Common.{◌≡◌, ap, sym, ◌∙◌, arith, subst}
+use Rattle.laws.specs.Answers.{number_with, value_in, number_answered, value_answered}
 use Rattle.register.specs.declared.Register.{Register}
+use Rattle.register.specs.Register.{register_read}
 use Rattle.register.specs.Accepted.{Registered, read_most, read_registered}
 use Rattle.plain.specs.Book.{new}
 use Rattle.calls.proofs.opening.open_core.Goals as goal
 
-pub returns-in_err-register : goal.returns-in_err-register
-returns-in_err-register c =
-    let p = err_from_is_err_and c.from_residual.result c.from_residual.ensures.1 in
-    rw (p.1, p.2)
-    (record { number = refused_number _ _ _ (omega (arith, read_most c.args.bytes.now)) c.in_err-register.ensures; opened = tt })
-
-pub returns : goal.returns
-returns c =
-    let bytes = c.args.bytes.now in
-    let number = done_number _ _ _ c.in_ok-register.ensures in
-    let same = done_value _ _ _ c.in_ok-register.ensures in
+pub returns-in-Ok : goal.returns-in-Ok
+returns-in-Ok c =
+    let read = register_read c.args.bytes.now in
+    let number : 0 ≡ read.number = ap number_with c.in-Ok.ensures ∙ number_answered read.number read.register (omega (arith, read_most c.args.bytes.now)) in
+    let same : c.in-Ok.register ≡ read.register = ap value_in c.in-Ok.ensures ∙ value_answered read.number read.register in
     record {
-      number = sym number;
+      number = number;
       opened =
           record {
             book = λ a blank. (c.new_core.ensures a blank).0 ∙ ap (λ (r : Register). new (record { register = r })) same;
-            held = λ a blank. (c.new_core.ensures a blank).1 (subst Registered (sym same) (read_registered bytes number));
+            held = λ a blank. (c.new_core.ensures a blank).1 (subst Registered (sym same) (read_registered c.args.bytes.now (sym number)));
           };
+      empty = tt;
+    }
+
+pub returns-in-Err : goal.returns-in-Err
+returns-in-Err c =
+    let read = register_read c.args.bytes.now in
+    let same : c.in-Err.turned_down.value ≡ read.register = ap value_in c.in-Err.ensures ∙ value_answered read.number read.register in
+    record {
+      number = ap number_with c.in-Err.ensures ∙ number_answered read.number read.register (omega (arith, read_most c.args.bytes.now));
+      opened = tt;
+      empty = λ a blank. (c.new_core-in-Err.ensures a blank).0 ∙ ap (λ (r : Register). new (record { register = r })) same;
     }
