@@ -1,2 +1,4 @@
+pub mod Others
+pub mod MaskTable
 pub mod TwoWords
 pub mod Writing

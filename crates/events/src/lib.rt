@@ -241,7 +241,6 @@ pub fn event_from(kind: u8, f: Fields) -> Event
 
 // The masks of a kind, of the first eight bytes of a body and of the last eight: ff at each byte that is spare in the kind, 00 at
 // those that it uses, the lowest byte on the right. The compiler keeps the arms as a table; an array it would build at each call.
-#[tactic(auto, unfolding(crate::specs::Masks::masks_in, crate::specs::Layout::marks_of, laws::specs::Words::word_of))]
 fn masks_of(kind: u8) -> Masks
     ensures { result ≡ masks_of kind }
 {
