@@ -9,9 +9,9 @@ use Rattle.laws.specs.Refusals.{accepted_zero, accepted_not}
 use Rattle.events.specs.declared.Event.{Event}
 use Rattle.files.specs.File.{events_of}
 use Rattle.plain.specs.declared.Piece.{Piece}
-use Rattle.std.proofs.Common.{Ok, Err}
-use Rattle.laws.specs.Answers.{Outcome, number_in, number_some, quantity_of}
-use Rattle.laws.specs.declared.TurnedDown.{TurnedDown}
+use Rattle.std.proofs.Common.{Ok}
+use Rattle.laws.specs.Answers.{Outcome, number, number_in, number_some, quantity_of}
+use Rattle.laws.specs.declared.Refusal.{Refusal}
 use Rattle.plain.specs.Book as plain
 use Rattle.plain.specs.Calls.{call}
 use Rattle.plain.specs.Refusals.{refusal}
@@ -53,10 +53,10 @@ module _ (b : plain.Book) (events : List Event) (entry : List ℕ) where
 
 -- the last event of an input
 module _ (input entry : List ℕ) where
-  pub refused_lines : (t : TurnedDown Started) → StartedOn input (Err t) → Wrote BLOCK (lines_for input) entry entry 0
+  pub refused_lines : (r : Refusal) → number r ≡ input_refusal input → Wrote BLOCK (lines_for input) entry entry 0
   unfolding lines_for
-  refused_lines t on =
-      wrote_text BLOCK [] _ entry entry 0 (sym (accepted_not (input_refusal input) _ _ (λ z. number_some t.refusal (on.number ∙ z)))) (empty_wrote BLOCK entry)
+  refused_lines r e =
+      wrote_text BLOCK [] _ entry entry 0 (sym (accepted_not (input_refusal input) _ _ (λ z. number_some r (e ∙ z)))) (empty_wrote BLOCK entry)
 
   pub accepted_lines : (s : Started) → StartedOn input (Ok s) → (exit : List ℕ) (used : ℕ)
       → Wrote BLOCK (last_text (opened input) (events_of (take (length input - s.file) (drop s.file input)))) entry exit used

@@ -1,6 +1,6 @@
 -- What the last event answers, and what is answered of it as one number.
-use Rattle.std.proofs.Common.{Ok, Err}
-use Rattle.laws.specs.declared.TurnedDown.{TurnedDown}
+use Rattle.std.proofs.Common.{Ok}
+use Rattle.laws.specs.declared.Refusal.{Refusal}
 use Prim.Native.Nat.{ℕ, ◌-◌, ◌≤◌, ◌<◌}
 use native.Mathlib.Omega.{arith}
 use mathlib.Core.Path.{◌≡◌, ap, ap₂, sym, ◌∙◌, subst}
@@ -65,11 +65,11 @@ last_number_lem b closes events sheet o e = go (ask (ltb 0 (length events)))
     go (failed p) = rw p (ap number_in (rw p at e))
 
 -- what the last event of an input answers, as one number
-pub refused_input : (input : List ℕ) (closes sheet : ℕ) (t : TurnedDown Started) → StartedOn input (Err t) → packed (number t.refusal) 0 ≡ packed (number_for input closes sheet) (quantity_for input closes sheet)
+pub refused_input : (input : List ℕ) (closes sheet : ℕ) (r : Refusal) → number r ≡ input_refusal input → packed (number r) 0 ≡ packed (number_for input closes sheet) (quantity_for input closes sheet)
 unfolding number_for quantity_for
-refused_input input closes sheet t on =
-    let n : input_refusal input ≢ 0 = λ z. number_some t.refusal (on.number ∙ z) in
-    ap₂ packed (on.number ∙ sym (accepted_not (input_refusal input) _ _ n)) (sym (accepted_not (input_refusal input) _ _ n))
+refused_input input closes sheet r e =
+    let n : input_refusal input ≢ 0 = λ z. number_some r (e ∙ z) in
+    ap₂ packed (e ∙ sym (accepted_not (input_refusal input) _ _ n)) (sym (accepted_not (input_refusal input) _ _ n))
 
 pub last_packed : (input : List ℕ) (closes sheet : ℕ) (s : Started) → StartedOn input (Ok s) → (o : Outcome) → LastAnswered (opened input) closes (events_of (take (length input - s.file) (drop s.file input))) sheet o
     → packed (number_in o) (quantity_of o) ≡ packed (number_for input closes sheet) (quantity_for input closes sheet)

@@ -11,17 +11,17 @@ use Rattle.plain.specs.Book.{opening_read, new}
 use Rattle.plain.specs.Histories.{run, calls_of}
 use Rattle.reading.specs.Reading.{price_answer}
 use Rattle.book.specs.View.{view}
-use Rattle.std.proofs.Common.{Ok, Err}
+use Rattle.std.proofs.Common.{Ok}
 use Rattle.laws.specs.Answers.{number, number_some}
-use Rattle.laws.specs.declared.TurnedDown.{TurnedDown}
+use Rattle.laws.specs.declared.Refusal.{Refusal}
 use Rattle.book.specs.declared.Book.{Book}
 use Rattle.replay.specs.Replay.{replay_refusal, ReplayedFrom}
 use Rattle.probe.specs.Latest.{answer_number, latest_for}
 
 module _ (register file : List ℕ) (security : ℕ) where
-  pub refused_latest : (t : TurnedDown Book) → ReplayedFrom register file (Err t) → number t.refusal ≡ latest_for register file security
+  pub refused_latest : (r : Refusal) → number r ≡ replay_refusal register file → number r ≡ latest_for register file security
   unfolding latest_for
-  refused_latest t h = h.number ∙ sym (accepted_not (replay_refusal register file) _ _ (λ z. number_some t.refusal (h.number ∙ z)))
+  refused_latest r e = e ∙ sym (accepted_not (replay_refusal register file) _ _ (λ z. number_some r (e ∙ z)))
 
   pub read_latest : (b : Book) → ReplayedFrom register file (Ok b) → answer_number (price_answer (view b) security) ≡ latest_for register file security
   unfolding latest_for

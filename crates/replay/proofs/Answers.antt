@@ -1,6 +1,8 @@
 -- What is answered: a refusal of the register or the file, or the book before and after the events.
-use Rattle.std.proofs.Common.{ℕ, ◌≡◌, refl, ap, sym, ◌∙◌, List, Ok, Err, Result, ne_eqb}
+use Rattle.std.proofs.Common.{ℕ, ◌≡◌, refl, sym, ◌∙◌, List, [], ◌∷◌, Ok, Err}
 use Rattle.laws.specs.Answers.{number, number_some}
+use Rattle.laws.specs.Refusals.{◌⇒◌, first}
+use Rattle.laws.specs.WordLaws.{nonzero}
 use Rattle.laws.specs.declared.Refusal.{Refusal}
 use Rattle.laws.specs.declared.TurnedDown.{TurnedDown}
 use Rattle.register.specs.Register.{register_read}
@@ -14,19 +16,24 @@ use Rattle.machine.specs.View.{Blank}
 use Rattle.book.specs.declared.Book.{Book}
 use Rattle.book.specs.View.{view, Valid}
 use Rattle.history.specs.Runs.{stand_of, RunsTo, in_place}
-use Rattle.replay.specs.Replay.{replay_refusal, ReadyFor, ReplayedFrom, Replayed, deciding}
+use Rattle.replay.specs.Replay.{replay_refusal, ReadyFor, ReplayedFrom, Replayed, deciding, decides}
 
 -- the register is refused, whatever the file is
-pub refused_register : (register file : List ℕ) (t : TurnedDown Core) → OpenedOn register (Err t) → ReadyFor register file (Err t)
+pub refused_register : (register file : List ℕ) (r : Refusal) → number r ≡ (register_read register).number → number r ≡ replay_refusal register file
 unfolding replay_refusal
-refused_register register file t opened =
+refused_register register file r e =
+    e ∙ sym (decides (register_read register).number (first ((nonzero (refusal file) ⇒ refusal file) ∷ [])) (λ z. number_some r (e ∙ z)))
+
+-- the same, with the core that opening handed out
+pub turned_down_register : (register file : List ℕ) (t : TurnedDown Core) → OpenedOn register (Err t) → ReadyFor register file (Err t)
+turned_down_register register file t opened =
     record {
-      number = rw (← opened.number, ne_eqb (number t.refusal) 0 (number_some t.refusal));
+      number = refused_register register file t.refusal opened.number;
       opened = tt;
       unread = record { book = opened.empty; opened = (Err t, opened, refl) };
     }
 
--- it is not: the file decides
+-- the register is not refused: the file decides
 module _ (register file : List ℕ) (b : Core) (opened : OpenedOn register (Ok b)) where
   file_decides : replay_refusal register file ≡ refusal file
   unfolding replay_refusal

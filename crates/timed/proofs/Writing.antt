@@ -4,10 +4,10 @@ use native.Mathlib.Omega.{arith}
 use mathlib.Core.Path.{◌≡◌, refl, ap, sym, ◌∙◌}
 use mathlib.Core.List.{List, [], ◌++◌, append_assoc}
 use lib.ListN.{length}
-use Rattle.std.proofs.Common.{Ok, Err}
+use Rattle.std.proofs.Common.{Ok}
 use Rattle.laws.specs.Answers.{number, number_some}
 use Rattle.laws.specs.Refusals.{accepted_zero, accepted_not}
-use Rattle.laws.specs.declared.TurnedDown.{TurnedDown}
+use Rattle.laws.specs.declared.Refusal.{Refusal}
 use Rattle.events.specs.declared.Event.{Event}
 use Rattle.files.specs.File.{events_of}
 use Rattle.plain.specs.Book as plain
@@ -77,10 +77,10 @@ ended es b entry page after bytes part m room g w =
     (wrote_lent g.text entry page bytes g.put END (end_text after) part m room w)
 
 -- a refused input
-pub refused_play : (input : List ℕ) (t : TurnedDown Started) → StartedOn input (Err t) → (entry exit : List ℕ) (n : ℕ) → Wrote LINE (refusal_line (number t.refusal)) entry exit n → Wrote (room_for input) (transcript input) entry exit n
+pub refused_play : (input : List ℕ) (r : Refusal) → number r ≡ input_refusal input → (entry exit : List ℕ) (n : ℕ) → Wrote LINE (refusal_line (number r)) entry exit n → Wrote (room_for input) (transcript input) entry exit n
 unfolding room_for
-refused_play input t on entry exit n w =
-    rw (accepted_not (input_refusal input) (BLOCK * length (events_in input) + END) LINE (λ z. number_some t.refusal (on.number ∙ z))) (wrote_text LINE _ _ entry exit n (refused input t on) w)
+refused_play input r e entry exit n w =
+    rw (accepted_not (input_refusal input) (BLOCK * length (events_in input) + END) LINE (λ z. number_some r (e ∙ z))) (wrote_text LINE _ _ entry exit n (refused input r e) w)
 
 module _ (input : List ℕ) (s : Started) (on : StartedOn input (Ok s)) where
   room : room_for input ≡ BLOCK * length (events_in input) + END

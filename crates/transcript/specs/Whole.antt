@@ -1,9 +1,9 @@
 -- The pages that are printed one after the other are the transcript.
-use Rattle.std.specs.Prelude.{ℕ, ◌+◌, ◌-◌, ◌≤◌, ◌≡◌, List, ◌++◌, length, take, drop, Ok, Err}
+use Rattle.std.specs.Prelude.{ℕ, ◌+◌, ◌-◌, ◌≤◌, ◌≡◌, List, ◌++◌, length, take, drop, Ok}
 use Rattle.std.proofs.Common.{arith, ap, ap₂, sym, ◌∙◌, append_assoc, length-drop, drop_of_length-le, length-take-le}
 use Rattle.laws.specs.Answers.{number, number_some}
 use Rattle.laws.specs.Refusals.{accepted_zero, accepted_not}
-use Rattle.laws.specs.declared.TurnedDown.{TurnedDown}
+use Rattle.laws.specs.declared.Refusal.{Refusal}
 use Rattle.events.specs.declared.Event.{Event}
 use Rattle.files.specs.File.{events_of}
 use Rattle.plain.specs.Book as plain
@@ -75,8 +75,8 @@ whole input s a on blank p =
     ∙ all_left input s on
 
 -- a refused input: the line of its refusal is
-pub refused : (input : List ℕ) (t : TurnedDown Started) → StartedOn input (Err t) → refusal_line (number t.refusal) ≡ transcript input
+pub refused : (input : List ℕ) (r : Refusal) → number r ≡ input_refusal input → refusal_line (number r) ≡ transcript input
 unfolding transcript
-refused input t on =
-    ap refusal_line on.number
-    ∙ sym (accepted_not (input_refusal input) (left (events_in input) (opened input) 0) (refusal_line (input_refusal input)) (λ z. number_some t.refusal (on.number ∙ z)))
+refused input r e =
+    ap refusal_line e
+    ∙ sym (accepted_not (input_refusal input) (left (events_in input) (opened input) 0) (refusal_line (input_refusal input)) (λ z. number_some r (e ∙ z)))

@@ -14,6 +14,6 @@ pub returns : goal.returns
 returns c =
     let a = c.args in
     let told : packed (number_in c.match-start.answer) (quantity_of c.match-start.answer) ≡ packed (number_for a.input.now a.closes a.sheet) (quantity_for a.input.now a.closes a.sheet) =
-    elim c.match-start.branch [ in-Ok w ↦ rw w.answer-is (last_packed a.input.now a.closes a.sheet _ w.in-Ok.ensures _ (w.last_answer-answer.ensures _ w.in-Ok.ensures.ready.opened.opened.book)) | in-Err w ↦ rw w.answer-is (refused_input a.input.now a.closes a.sheet _ w.in-Err.ensures) ]
+    elim c.match-start.branch [ in-Ok w ↦ rw w.answer-is (last_packed a.input.now a.closes a.sheet _ w.in-Ok.ensures _ (w.last_answer-answer.ensures _ w.in-Ok.ensures.ready.opened.opened.book)) | in-Err w ↦ rw w.answer-is (refused_input a.input.now a.closes a.sheet _ w.in-Err.ensures.number) ]
     in
     c.answered.ensures ∙ told

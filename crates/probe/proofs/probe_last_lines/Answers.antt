@@ -15,4 +15,4 @@ returns-in-Ok c =
     accepted_lines c.args.input.now c.args.page.now _ c.in-Ok.ensures _ _ (c.last_lines.ensures _ c.in-Ok.ensures.ready.opened.opened.book)
 
 pub returns-in-Err : goal.returns-in-Err
-returns-in-Err c = refused_lines c.args.input.now c.args.page.now _ c.in-Err.ensures
+returns-in-Err c = refused_lines c.args.input.now c.args.page.now _ c.in-Err.ensures.number

@@ -20,7 +20,7 @@ abbrev After-events_in-count : Type 0
 After-events_in-count = lts.After-events_in tie.the-claims reads.Pre reads.Post
 
 pub returns-in-Err : goal.returns-in-Err
-returns-in-Err c = refused_play _ _ c.in-Err.ensures _ _ _ (rw c.from.ensures at c.refusal_line.ensures)
+returns-in-Err c = refused_play _ _ c.in-Err.ensures.number _ _ _ (rw c.from.ensures at c.refusal_line.ensures)
 
 -- the events that are counted are the input's
 counted : (c : After-events_in-count) → c.events_in-count.result ≡ length (events_in c.args.input.now)

@@ -2,7 +2,7 @@
 use mathlib.Core.Path.{sym}
 use lib.Seq.{length-take-le}
 use borrow.Author.Rules.{rules}
-use Rattle.transcript.proofs.Ready.{refused, started, end_within}
+use Rattle.transcript.proofs.Ready.{turned_down, started, end_within}
 use Rattle.transcript.proofs.start.Goals as goal
 
 pub slice_bounds-ready-end : goal.slice_bounds-ready-end
@@ -14,4 +14,4 @@ pub returns-in-Ok : goal.returns-in-Ok
 returns-in-Ok c = started c.args.input.now c.register_end-file.result c.register_end-file.ensures _ c.in-Ok.ensures
 
 pub returns-in-Err : goal.returns-in-Err
-returns-in-Err c = refused c.args.input.now c.register_end-file.result c.register_end-file.ensures _ c.in-Err.ensures
+returns-in-Err c = turned_down c.args.input.now c.register_end-file.result c.register_end-file.ensures _ c.in-Err.ensures
